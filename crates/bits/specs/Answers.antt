@@ -1,0 +1,56 @@
+-- Document 01, "Refusal numbers": what an answer is, and the number of each refusal.
+use Prim.Native.Nat.{ℕ}
+use mathlib.Core.List.{List}
+
+-- An answer in document 01's terms: number 0 with its value, or the number of a refusal with the values that it carries.
+pub data Outcome (A : Type 0) : Type 0 where
+  done : A → Outcome A
+  refused : ℕ → List ℕ → Outcome A
+
+abbrev pub NO-CODE : ℕ
+NO-CODE = 1
+
+abbrev pub CUT : ℕ
+CUT = 2
+
+abbrev pub OVERLAP : ℕ
+OVERLAP = 3
+
+abbrev pub UNKNOWN : ℕ
+UNKNOWN = 4
+
+abbrev pub OUT-OF-PLACE : ℕ
+OUT-OF-PLACE = 5
+
+abbrev pub SHORT : ℕ
+SHORT = 6
+
+abbrev pub MARKER : ℕ
+MARKER = 7
+
+abbrev pub VALUE : ℕ
+VALUE = 8
+
+abbrev pub STUFFING : ℕ
+STUFFING = 9
+
+abbrev pub TWICE : ℕ
+TWICE = 10
+
+abbrev pub UNENDED : ℕ
+UNENDED = 11
+
+abbrev pub FULL : ℕ
+FULL = 12
+
+abbrev pub TOO-LONG : ℕ
+TOO-LONG = 13
+
+abbrev pub PAYLOAD-OUT : ℕ
+PAYLOAD-OUT = 14
+
+abbrev pub BAD-STATE : ℕ
+BAD-STATE = 15
+
+abbrev pub NO-ROW : ℕ
+NO-ROW = 16
