@@ -1,8 +1,11 @@
--- The laws of `All`, and a case split on a test that keeps its equation.
-use Prim.Native.Nat.{ℕ, zero, suc}
-use mathlib.Core.Path.{_≡_, refl}
+-- The laws of `All`, and of tests: a case split that keeps its equation, and a rule proved by one computed test.
+use Prim.Native.Nat.{ℕ, zero, suc, _<_}
+use mathlib.Core.Path.{_≡_, refl, sym, ap, _∙_}
 use mathlib.Core.List.{List, [], _∷_, _++_}
-use mathlib.Core.Bool.{Bool, true, false}
+use mathlib.Core.Bool.{Bool, true, false, _&&_, Bool·beq, false≢true}
+use native.Mathlib.Omega.{arith}
+use borrow.Author.Tests.{eqb-true, eqb-false}
+use lib.Dec.{eqb}
 use lib.ListN.{take, drop}
 use Rattle.bits.specs.Lists.{All}
 
@@ -23,3 +26,27 @@ all-take P (suc n) (x ∷ l) h = (h .0, all-take P n l (h .1))
 pub by-test {ℓ} : {P : Type ℓ} (t : Bool) → (t ≡ true → P) → (t ≡ false → P) → P
 by-test true yes-case no-case = yes-case refl
 by-test false yes-case no-case = no-case refl
+
+pub and-true : (a b : Bool) → a && b ≡ true → (a ≡ true) × (b ≡ true)
+and-true true b e = (refl, e)
+and-true false b e = absurd (false≢true e)
+
+pub beq-true : (a b : Bool) → Bool·beq a b ≡ true → a ≡ b
+beq-true true true e = refl
+beq-true true false e = sym e
+beq-true false true e = e
+beq-true false false e = refl
+
+-- a test that is computed at each number below n
+abbrev pub allBelow : ℕ → (ℕ → Bool) → Bool
+allBelow zero p = true
+allBelow (suc n) p = p n && allBelow n p
+
+pub at-each : (n : ℕ) (p : ℕ → Bool) → allBelow n p ≡ true → (k : ℕ) → k < n → p k ≡ true
+at-each zero p t k h = absurd (omega arith)
+at-each (suc n) p t k h =
+    let (here, rest) = and-true (p n) (allBelow n p) t in
+    let r = at-each n p rest k in
+    by-test (eqb k n)
+    (λ e. ap p (eqb-true k n e) ∙ here)
+    (λ f. let d = eqb-false k n f in r (omega arith))

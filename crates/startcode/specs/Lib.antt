@@ -1,0 +1,3 @@
+-- Document 01, "Units".
+pub mod Prefix
+pub mod Kinds
