@@ -1,11 +1,21 @@
 -- Document 01, "Refusal numbers": what an answer is, and the number of each refusal.
 use Prim.Native.Nat.{ℕ}
-use mathlib.Core.List.{List}
+use mathlib.Core.List.{List, []}
+use mathlib.Core.Bool.{Bool, cond}
 
 -- An answer in document 01's terms: number 0 with its value, or the number of a refusal with the values that it carries.
 pub data Outcome (A : Type 0) : Type 0 where
   done : A → Outcome A
   refused : ℕ → List ℕ → Outcome A
+
+-- a refusal where a test holds, before all that comes after it
+abbrev pub refuseIf : {A : Type 0} → Bool → ℕ → Outcome A → Outcome A
+refuseIf test number rest = cond test (refused number []) rest
+
+-- another value for one that is done; a refusal stays
+abbrev pub mapDone : {A B : Type 0} → (A → B) → Outcome A → Outcome B
+mapDone f (done a) = done (f a)
+mapDone f (refused number carried) = refused number carried
 
 abbrev pub NO-CODE : ℕ
 NO-CODE = 1

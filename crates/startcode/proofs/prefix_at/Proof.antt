@@ -6,7 +6,8 @@ use native.Mathlib.Omega.{arith}
 use borrow.Author.Needs.{needs}
 use borrow.Author.Tests.{ne-eqb}
 use lib.ListN.{length, getD, drop, length-drop}
-use Rattle.startcode.proofs.Laws.{and-false, begins-at, begins-third, begins-short}
+use Rattle.bits.proofs.Lists.{and-false}
+use Rattle.startcode.proofs.Laws.{begins-at, begins-third, begins-short}
 use Rattle.startcode.proofs.prefix_at.Statement.{statement}
 use Rattle.startcode.proofs.prefix_at.Tie as tie
 

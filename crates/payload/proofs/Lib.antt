@@ -1,0 +1,3 @@
+pub mod EscapeLaws
+pub mod GolombLaws
+pub mod Main

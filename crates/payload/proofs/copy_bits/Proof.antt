@@ -1,0 +1,78 @@
+-- What is pushed and what is still to come make the whole.
+use Prim.Native.Nat.{_-_}
+use native.Mathlib.Omega.{arith}
+use borrow.Author.Needs.{needs}
+use lib.ListN.{length, getD}
+use Rattle.payload.proofs.EscapeLaws.{Copying, copying-start, copying-step, copying-end, width-le}
+use Rattle.payload.proofs.copy_bits.Statement.{statement}
+use Rattle.payload.proofs.copy_bits.Tie as tie
+
+abbrev Inv-loop : tie.InvT-loop
+Inv-loop raw out₀ p₀ zeros₀ i₀ out p zeros i = Copying raw out₀ out p zeros i
+
+abbrev μ-loop : tie.MeasureT-loop
+μ-loop raw out₀ p₀ zeros₀ i₀ out p zeros i = length raw - i
+
+loop-holds : tie.Need-loop-holds Inv-loop μ-loop
+loop-holds c = copying-start _ _
+
+shared-slice-read-byte : tie.Need-shared-slice-read-byte Inv-loop μ-loop
+shared-slice-read-byte c = search needs
+
+kept-width-requires : tie.Need-kept-width-requires Inv-loop μ-loop
+kept-width-requires c κs = search needs
+
+push-bits-requires : tie.Need-push-bits-requires Inv-loop μ-loop
+push-bits-requires c κs =
+    let l = c .before .before .before .before in
+    let a = l .before .before .before in
+    let w = width-le (l .loop .zeros) (getD (a .args .raw .now) (l .loop .i) 0) in
+    let e = c .before .kept-width .ensures in
+    (omega arith, l .loop .inv .partial, omega (arith, l .loop .inv .bound, l .loop .inv .same))
+
+zeros-after-requires : tie.Need-zeros-after-requires Inv-loop μ-loop
+zeros-after-requires c κs =
+    let l = c .before .before .before .before .before .before .before in
+    let a = l .before .before .before in
+    omega (arith, l .loop .inv .few, a .pre .0)
+
+add-i : tie.Need-add-i Inv-loop μ-loop
+add-i c = search needs
+
+loop-less : tie.Need-loop-less Inv-loop μ-loop
+loop-less c = search needs
+
+loop-again : tie.Need-loop-again Inv-loop μ-loop
+loop-again c =
+    let u = c .before .before .before in
+    let w = u .before .before in
+    let l = w .before .before .before in
+    let a = l .before .before .before in
+    copying-step (a .args .raw .now) (a .args .out .now) (l .loop .out) (l .loop .p) (l .loop .zeros) (l .loop .i) (l .loop .inv) _ (u .push-bits .result) (w .kept-width .result) (c .zeros-after .result)
+    (w .before .before .loop-test .taken) (w .kept-width .ensures) (c .zeros-after .ensures) (u .push-bits .ensures)
+
+same-length : tie.Need-same-length Inv-loop μ-loop
+same-length c = search needs
+
+returns : tie.Need-returns Inv-loop μ-loop
+returns c =
+    let l = c .before in
+    let a = l .before .before .before in
+    copying-end (a .args .raw .now) (a .args .out .now) (l .loop .out) (l .loop .p) (l .loop .zeros) (l .loop .i) (l .loop .inv) (c .loop-test .left)
+
+pub copy-bits-spec : {M : Type 1} → statement M
+copy-bits-spec =
+    tie.close
+    (tie.spec
+    Inv-loop
+    μ-loop
+    loop-holds
+    shared-slice-read-byte
+    kept-width-requires
+    push-bits-requires
+    zeros-after-requires
+    add-i
+    loop-less
+    loop-again
+    same-length
+    returns)

@@ -1,0 +1,228 @@
+// Payloads: removal of escape bits, and Exp-Golomb numbers.
+use bits::Bit;
+use bits::Read;
+ghost use mathlib.Core.Path.{_≡_};
+ghost use mathlib.Core.Bool.{cond, _&&_};
+ghost use mathlib.Core.List.{[], _++_};
+ghost use Prim.Native.Nat.{_+_, _*_, _^_, _≤_, _<_};
+ghost use lib.Dec.{leb, eqb};
+ghost use lib.ListN.{length, take, drop};
+ghost use Rattle.bits.specs.Bits.{bitsIn, packOn, payload};
+ghost use Rattle.payload.specs.Escape.{removal, outputAfter, removedSays};
+ghost use Rattle.payload.specs.Golomb.{zerosOn, golomb, golombSays, standsFor, signedGolomb, signedSays};
+ghost use Rattle.payload.specs.Inside.{Partial, Pushed, Copied};
+
+// ── escape removal ──
+
+// Done with the bit count.
+pub enum Removed {
+    Done(usize),
+    Full,
+    TooLong,
+}
+
+// `full` bytes are written; k bits that write `value` are not yet.
+struct Packer {
+    full: usize,
+    value: u32,
+    k: u32,
+}
+
+fn wide(x: u8) -> u32
+    ensures { λ r. ⌜ r ≡ x ⌝ }
+{
+    x as u32
+}
+
+// The first width bits of a byte are pushed, one at a time.
+fn push_bits(out: &mut [u8], p: Packer, byte: u8, width: u32) -> Packer
+    requires { ⌜ (width ≤ 8) × Partial p × (p .full * 8 + p .k + width ≤ length (now out) * 8) ⌝ }
+    ensures { λ r. ⌜ Pushed (now (out .entry)) (now (out .exit)) p r (take width (bitsIn 8 byte)) ⌝ }
+{
+    let mut full = p.full;
+    let mut value = p.value;
+    let mut k = p.k;
+    let mut j: u32 = 0;
+    while j < width {
+        let bit = wide(byte) >> (7 - j) & 1;
+        value = (value << 1) + bit;
+        if k == 7 {
+            out[full] = value as u8;
+            full += 1;
+            value = 0;
+            k = 0;
+        } else {
+            k += 1;
+        }
+        j += 1;
+    }
+    Packer {
+        full: full,
+        value: value,
+        k: k,
+    }
+}
+
+// How many bits stay of a byte after so many raw bytes 00.
+fn kept_width(zeros: usize, byte: u8) -> u32
+    ensures { λ r. ⌜ r ≡ cond (leb 2 zeros && eqb byte 2) 6 8 ⌝ }
+{
+    if zeros < 2 {
+        return 8;
+    }
+    if byte == 2 { 6 } else { 8 }
+}
+
+// The raw bytes 00 just before the next byte.
+fn zeros_after(zeros: usize, byte: u8) -> usize
+    requires { ⌜ zeros < 65536 ⌝ }
+    ensures { λ r. ⌜ r ≡ cond (eqb byte 0) (zeros + 1) 0 ⌝ }
+{
+    if byte == 0 { zeros + 1 } else { 0 }
+}
+
+// The bits that stay are pushed; the last byte may be still to be written.
+fn copy_bits(raw: &[u8], out: &mut [u8]) -> Packer
+    requires { ⌜ (length (now raw) ≤ 65536) × (length (now raw) ≤ length (now out)) ⌝ }
+    ensures { λ r. ⌜ Copied (now (raw .entry)) (now (out .entry)) (now (out .exit)) r ⌝ }
+{
+    let mut p = Packer {
+        full: 0,
+        value: 0,
+        k: 0,
+    };
+    let mut zeros: usize = 0;
+    let mut i: usize = 0;
+    while i < raw.len() {
+        let byte = raw[i];
+        let width = kept_width(zeros, byte);
+        p = push_bits(out, p, byte, width);
+        zeros = zeros_after(zeros, byte);
+        i += 1;
+    }
+    p
+}
+
+// The last byte is filled with zeros and written; the answer is the bit count.
+fn fill_last(out: &mut [u8], p: Packer) -> usize
+    requires { ⌜ Partial p × (p .full * 8 + p .k ≤ length (now out) * 8) × (p .full ≤ 65536) ⌝ }
+    ensures count { λ r. ⌜ r ≡ p .full * 8 + p .k ⌝ }
+    ensures written { λ r. ⌜ now (out .exit) ≡ take (p .full) (now (out .entry)) ++ packOn (p .value) (p .k) [] ++ drop (p .full + length (packOn (p .value) (p .k) [])) (now (out .entry)) ⌝ }
+{
+    let full = p.full;
+    let value = p.value;
+    let k = p.k;
+    if k == 0 {
+        return full * 8;
+    }
+    out[full] = (value << (8 - k)) as u8;
+    full * 8 + k as usize
+}
+
+// Escape bits are removed from raw bytes into out.
+pub fn remove_escapes(raw: &[u8], out: &mut [u8]) -> Removed
+    ensures answer { λ r. ⌜ removedSays r ≡ removal (now (raw .entry)) (length (now (out .entry))) ⌝ }
+    ensures output { λ r. ⌜ now (out .exit) ≡ outputAfter (removal (now (raw .entry)) (length (now (out .entry)))) (now (raw .entry)) (now (out .entry)) ⌝ }
+{
+    if 65536 < raw.len() {
+        return Removed::TooLong;
+    }
+    if out.len() < raw.len() {
+        return Removed::Full;
+    }
+    let p = copy_bits(raw, out);
+    let count = fill_last(out, p);
+    Removed::Done(count)
+}
+
+// ── Exp-Golomb numbers ──
+
+// A number and the place after it.
+pub enum Golomb {
+    Number(u32, usize),
+    Value,
+    TooLong,
+    PayloadOut,
+}
+
+pub enum SignedGolomb {
+    Number(i32, usize),
+    Value,
+    TooLong,
+    PayloadOut,
+}
+
+// Zeros before a 1, with the place after that 1.
+enum Zeros {
+    Before(u32, usize),
+    TooMany,
+    Missing,
+}
+
+// The zeros from a place on.
+fn count_zeros(bytes: &[u8], count: usize, place: usize) -> Zeros
+    ensures { λ r. ⌜ r ≡ zerosOn 0 place (drop place (payload (now (bytes .entry)) count)) ⌝ }
+{
+    let mut z: u32 = 0;
+    let mut at = place;
+    while z < 32 {
+        match bits::read_bit(bytes, count, at) {
+            Bit::Is(bit) => {
+                at += 1;
+                if bit != 0 {
+                    return Zeros::Before(z, at);
+                }
+                z += 1;
+            }
+            Bit::Missing => {
+                return Zeros::Missing;
+            }
+        }
+    }
+    Zeros::TooMany
+}
+
+// The unsigned number at a place of a payload.
+pub fn unsigned_golomb(bytes: &[u8], count: usize, place: usize) -> Golomb
+    ensures { λ r. ⌜ golombSays r ≡ golomb (now (bytes .entry)) count place ⌝ }
+{
+    if 65536 < bytes.len() {
+        return Golomb::TooLong;
+    }
+    match count_zeros(bytes, count, place) {
+        Zeros::Before(z, at) => match bits::read_bits(bytes, count, at, z) {
+            Read::Value(b) => {
+                let one: u32 = 1;
+                Golomb::Number((one << z) - 1 + b, at + z as usize)
+            }
+            Read::Missing => Golomb::PayloadOut,
+            Read::TooWide => Golomb::Value,
+        },
+        Zeros::TooMany => Golomb::Value,
+        Zeros::Missing => Golomb::PayloadOut,
+    }
+}
+
+// The signed number that an unsigned one stands for.
+fn stands_for(n: u32) -> i32
+    requires { ⌜ n < 4294967295 ⌝ }
+    ensures { λ r. ⌜ r ≡ standsFor n ⌝ }
+{
+    if n % 2 == 1 {
+        ((n + 1) / 2) as i32
+    } else {
+        -((n / 2) as i32)
+    }
+}
+
+// The signed number at a place of a payload.
+pub fn signed_golomb(bytes: &[u8], count: usize, place: usize) -> SignedGolomb
+    ensures { λ r. ⌜ signedSays r ≡ signedGolomb (now (bytes .entry)) count place ⌝ }
+{
+    match unsigned_golomb(bytes, count, place) {
+        Golomb::Number(n, next) => SignedGolomb::Number(stands_for(n), next),
+        Golomb::Value => SignedGolomb::Value,
+        Golomb::TooLong => SignedGolomb::TooLong,
+        Golomb::PayloadOut => SignedGolomb::PayloadOut,
+    }
+}
