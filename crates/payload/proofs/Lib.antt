@@ -1,3 +1,4 @@
 pub mod EscapeLaws
 pub mod GolombLaws
+pub mod Exactly
 pub mod Main

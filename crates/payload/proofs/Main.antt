@@ -1,0 +1,28 @@
+-- What is proved of payloads beyond the contracts of the functions.
+use Prim.Native.Nat.{ℕ}
+use mathlib.Core.Path.{_≡_}
+use mathlib.Core.List.{List}
+use lib.ListN.{length}
+use Rattle.bits.specs.Answers.{done}
+use Rattle.bits.specs.Bits.{payload}
+use Rattle.payload.specs.Escape.{unescaped, removal, outputAfter, removedSays}
+use Rattle.payload.specs.Golomb.{golombSays, signedSays}
+use Rattle.payload.specs.declared.Removed.{Removed}
+use Rattle.payload.specs.declared.Golomb.{Golomb}
+use Rattle.payload.specs.declared.SignedGolomb.{SignedGolomb}
+use Rattle.payload.proofs.Exactly as proof
+
+-- What removal wrote is read back as the payload's bits without its escape bits: the filling is never read.
+pub removed-payload : (raw output : List ℕ) (count : ℕ) → removal raw (length output) ≡ done count →
+    payload (outputAfter (done count) raw output) count ≡ unescaped raw
+removed-payload = proof.removed-payload
+
+-- Two answers with one number and one value are one answer.
+pub removed-says-one : (a b : Removed) → removedSays a ≡ removedSays b → a ≡ b
+removed-says-one = proof.removed-says-one
+
+pub golomb-says-one : (a b : Golomb) → golombSays a ≡ golombSays b → a ≡ b
+golomb-says-one = proof.golomb-says-one
+
+pub signed-says-one : (a b : SignedGolomb) → signedSays a ≡ signedSays b → a ≡ b
+signed-says-one = proof.signed-says-one

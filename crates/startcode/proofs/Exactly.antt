@@ -8,7 +8,7 @@ use lib.Dec.{leb, eqb}
 use lib.ListN.{length, drop, length-drop}
 use lib.Seq.{drop-drop}
 use Rattle.bits.specs.Answers.{Outcome, done, refused}
-use Rattle.bits.proofs.Lists.{at-each, beq-true}
+use Rattle.bits.proofs.Lists.{one-to-one, at-each, beq-true}
 use Rattle.startcode.specs.Prefix.{begins, before, nextPrefix, First}
 use Rattle.startcode.specs.Kinds.{kindOf, kindSays}
 use Rattle.startcode.specs.declared.Kind.{Kind}
@@ -33,11 +33,17 @@ module _ (stream : List ℕ) (from : ℕ) where
         none-before = λ k h i. moved k (k - from) (omega arith) ∙ before-none (drop from stream) (k - from) (omega arith);
       }
 
+unitKindOf : Outcome Kind → UnitKind
+unitKindOf (done k) = Is k
+unitKindOf (refused number carried) = Unknown
+
+kind-undone : (a : UnitKind) → unitKindOf (kindSays a) ≡ a
+unfolding unitKindOf
+kind-undone (Is k) = refl
+kind-undone Unknown = refl
+
 pub kind-says-one : (a b : UnitKind) → kindSays a ≡ kindSays b → a ≡ b
-kind-says-one (Is a) (Is b) e = cc
-kind-says-one (Is a) Unknown e = let z : _≡_ {A = ℕ} 0 1 = cc in absurd (omega arith)
-kind-says-one Unknown (Is b) e = let z : _≡_ {A = ℕ} 0 1 = cc in absurd (omega arith)
-kind-says-one Unknown Unknown e = refl
+kind-says-one = one-to-one kindSays unitKindOf kind-undone
 
 abbrev pub isUnknown : Outcome Kind → Bool
 isUnknown (done k) = false
