@@ -1,0 +1,48 @@
+#!/usr/bin/env python3
+"""Each public function of the library has an `ensures` and no `requires`; a line for each that falls short, and exit 1.
+
+The programs that rt ci runs, and what they print with, answer nothing and are passed over.
+"""
+import pathlib
+import re
+import sys
+
+
+def heads(lines):
+    """The line and the text of each public function's signature and clauses, up to its body."""
+    at = 0
+    while at < len(lines):
+        if not re.match(r'\s*pub (?:extern "C" )?fn ', lines[at]):
+            at += 1
+            continue
+        start, text = at, []
+        while at < len(lines):
+            line = lines[at].strip()
+            text.append(line)
+            at += 1
+            if line.endswith("{") and not re.match(r"(requires|ensures|ghost)\b", line):
+                break
+        yield start + 1, text
+
+
+def faults(text):
+    if any(line.startswith("requires") for line in text):
+        yield "has a requires"
+    if not any(line.startswith("ensures") for line in text):
+        yield "has no ensures"
+
+
+def main():
+    found = False
+    for file in sorted(pathlib.Path("crates").glob("*/src/**/*.rt")):
+        crate = file.parts[1]
+        if crate == "print" or crate.startswith("run_"):
+            continue
+        for line, text in heads(file.read_text().split("\n")):
+            for fault in faults(text):
+                found = True
+                print(f"{file}:{line}: {text[0]} {fault}")
+    sys.exit(found)
+
+
+main()
