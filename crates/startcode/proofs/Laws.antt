@@ -56,11 +56,11 @@ search-start s from = rw length-take
 at-head : (s : List ℕ) (i : ℕ) → i < length s → drop i s ≡ getD s i 0 ∷ drop (i + 1) s
 at-head s i h = rw add-one (drop-cons s i 0 h)
 
-before-hit : (a : ℕ) (t : List ℕ) → begins (a ∷ t) ≡ true → before (a ∷ t) ≡ 0
+pub before-hit : (a : ℕ) (t : List ℕ) → begins (a ∷ t) ≡ true → before (a ∷ t) ≡ 0
 unfolding before
 before-hit a t e = simp e
 
-before-miss : (a : ℕ) (t : List ℕ) → begins (a ∷ t) ≡ false → before (a ∷ t) ≡ suc (before t)
+pub before-miss : (a : ℕ) (t : List ℕ) → begins (a ∷ t) ≡ false → before (a ∷ t) ≡ suc (before t)
 unfolding before
 before-miss a t e = simp e
 

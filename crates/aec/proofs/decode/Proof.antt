@@ -1,0 +1,97 @@
+-- A step by the context's own prediction, and its update, once nothing is refused.
+use Prim.Native.Nat.{ℕ}
+use mathlib.Core.Path.{_≡_, sym, ap, _∙_}
+use Rattle.bits.specs.Answers.{Outcome, done}
+use Rattle.bits.specs.Bits.{payload}
+use Rattle.aec.specs.Bins.{goodContext, refusedFirst, stepOf, updateOf, decodeOf}
+use Rattle.aec.specs.Says.{checkedSays, steppedSays}
+use Rattle.aec.specs.declared.State.{State}
+use Rattle.aec.specs.declared.Context.{Context}
+use Rattle.aec.proofs.LawsAnswers.{stops, goes-on, stops-next}
+use Rattle.aec.proofs.LawsRanges.{context-ranges}
+use Rattle.aec.proofs.LawsSteps.{first-held}
+use borrow.Author.Needs.{needs}
+use Rattle.aec.proofs.decode.Statement.{statement}
+use Rattle.aec.proofs.decode.Tie as tie
+
+-- the step, and what follows it
+abbrev stepping : tie.Start → Unit {0} → Outcome (ℕ × State)
+stepping e _ = let a = e .args in stepOf (payload (a .bytes .now) (a .count)) (a .x) (record { p = a .c .mps; lg = a .c .lg })
+
+abbrev updating : tie.Start → Unit {0} → ℕ × State → Outcome (ℕ × State × Context)
+updating e _ r = done (r .0, r .1, updateOf (e .args .c) (r .0))
+
+-- what is refused first, by the definition's test of the context
+first : (c : tie.After-guard) → let a = c .before .before .before .args in
+    checkedSays (c .guard .result) ≡ refusedFirst (a .bytes .now) (a .count) (a .x) (goodContext (a .c))
+first c =
+    let a = c .before .before .before .args in
+    c .guard .ensures ∙ ap (refusedFirst (a .bytes .now) (a .count) (a .x)) (c .before .good-context .ensures)
+
+good-context-requires : tie.Need-good-context-requires
+good-context-requires c κs = search needs
+
+guard-requires : tie.Need-guard-requires
+guard-requires c κs = search needs
+
+enum-told : tie.Need-enum-told
+enum-told c = search needs
+
+fine : (c : tie.After-enum-told) → let a = c .before .before .before .before .before .args in
+    done tt ≡ refusedFirst (a .bytes .now) (a .count) (a .x) (goodContext (a .c))
+fine c = ap checkedSays (sym (c .enum-told .given .1)) ∙ first (c .before .before)
+
+step-requires : tie.Need-step-requires
+step-requires c κs =
+    let h = first-held _ _ _ _ (sym (fine c)) in
+    let r = context-ranges _ (h .2) in
+    (h .0, h .1, r .mps, r .low, r .high)
+
+enum-known-bin : tie.Need-enum-known-bin
+enum-known-bin c = search needs
+
+updated-requires : tie.Need-updated-requires
+updated-requires c κs = first-held _ _ _ _ (sym (fine (c .before .before .before .before))) .2
+
+enum-known-r : tie.Need-enum-known-r
+enum-known-r c = search needs
+
+enum-known-r-2 : tie.Need-enum-known-r-2
+enum-known-r-2 c = search needs
+
+returns : tie.Need-returns
+unfolding decodeOf
+returns c =
+    let k = c .before in
+    let s = k .before .before .before in
+    let b = k .before .bin .given in
+    let e = s .before .before .before .before .before .before in
+    ap (λ d. done (b .0 .0, b .0 .1 .0, d)) (c .updated .ensures)
+    ∙ goes-on (stepping e) (updating e) (fine (s .before)) (b .0 .0, b .0 .1 .0) (ap steppedSays (sym (b .1)) ∙ s .step .ensures)
+
+returns-2 : tie.Need-returns-2
+unfolding decodeOf
+returns-2 c =
+    let s = c .before .before .before in
+    let e = s .before .before .before .before .before .before in
+    stops-next (stepping e) (updating e) (fine (s .before)) (c .before .r .given .0 .0) (ap steppedSays (sym (c .before .r .given .1)) ∙ s .step .ensures)
+
+returns-3 : tie.Need-returns-3
+unfolding decodeOf
+returns-3 c = stops (c .before .r2 .given .0 .0) _ (ap checkedSays (sym (c .before .r2 .given .1)) ∙ first (c .before .before .before))
+
+pub decode-spec : {M : Type 1} → statement M
+decode-spec =
+    tie.close
+    (tie.spec
+    good-context-requires
+    guard-requires
+    enum-told
+    step-requires
+    enum-known-bin
+    updated-requires
+    enum-known-r
+    enum-known-r-2
+    returns
+    returns-2
+    returns-3)

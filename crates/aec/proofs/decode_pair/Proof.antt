@@ -1,0 +1,120 @@
+-- A step by the prediction of both contexts, and both updates, once nothing is refused.
+use Prim.Native.Nat.{ℕ}
+use mathlib.Core.Path.{_≡_, sym, ap, _∙_}
+use mathlib.Core.Bool.{true, _&&_}
+use Rattle.bits.specs.Answers.{Outcome, done}
+use Rattle.bits.specs.Bits.{payload}
+use Rattle.aec.specs.Bins.{goodContext, refusedFirst, stepOf, pairOf, updateOf, decodePairOf}
+use Rattle.aec.specs.Says.{checkedSays, steppedSays}
+use Rattle.aec.specs.declared.State.{State}
+use Rattle.aec.specs.declared.Context.{Context}
+use Rattle.aec.proofs.LawsAnswers.{stops, goes-on, stops-next}
+use Rattle.aec.proofs.LawsRanges.{both, context-ranges}
+use Rattle.aec.proofs.LawsContexts.{Predicts, pair-predicts}
+use Rattle.aec.proofs.LawsSteps.{first-held}
+use borrow.Author.Needs.{needs}
+use Rattle.aec.proofs.decode_pair.Statement.{statement}
+use Rattle.aec.proofs.decode_pair.Tie as tie
+
+-- the step, and what follows it
+abbrev stepping : tie.Start → Unit {0} → Outcome (ℕ × State)
+stepping e _ = let a = e .args in stepOf (payload (a .bytes .now) (a .count)) (a .x) (pairOf (a .a) (a .b))
+
+abbrev updating : tie.Start → Unit {0} → ℕ × State → Outcome (ℕ × State × Context × Context)
+updating e _ r = done (r .0, r .1, updateOf (e .args .a) (r .0), updateOf (e .args .b) (r .0))
+
+-- what is refused first, by the definition's test of the contexts
+first : (c : tie.After-guard) → let a = c .before .before .before .args in
+    checkedSays (c .guard .result) ≡ refusedFirst (a .bytes .now) (a .count) (a .x) (goodContext (a .a) && goodContext (a .b))
+first c =
+    let a = c .before .before .before .args in
+    c .guard .ensures ∙ ap (refusedFirst (a .bytes .now) (a .count) (a .x)) (c .before .good-pair .ensures)
+
+good-pair-requires : tie.Need-good-pair-requires
+good-pair-requires c κs = search needs
+
+guard-requires : tie.Need-guard-requires
+guard-requires c κs = search needs
+
+enum-told : tie.Need-enum-told
+enum-told c = search needs
+
+fine : (c : tie.After-enum-told) → let a = c .before .before .before .before .before .args in
+    done tt ≡ refusedFirst (a .bytes .now) (a .count) (a .x) (goodContext (a .a) && goodContext (a .b))
+fine c = ap checkedSays (sym (c .enum-told .given .1)) ∙ first (c .before .before)
+
+good : (c : tie.After-enum-told) → let a = c .before .before .before .before .before .args in (goodContext (a .a) ≡ true) × (goodContext (a .b) ≡ true)
+good c = both _ _ (first-held _ _ _ _ (sym (fine c)) .2)
+
+pair-requires : tie.Need-pair-requires
+pair-requires c κs = good c
+
+step-requires : tie.Need-step-requires
+step-requires c κs =
+    let k = c .before in
+    let h = first-held _ _ _ _ (sym (fine k)) in
+    let g = good k in
+    let r : Predicts (c .pair .result) = rw (c .pair .ensures) (pair-predicts _ _ (context-ranges _ (g .0)) (context-ranges _ (g .1))) in
+    (h .0, h .1, r .bin, r .low, r .high)
+
+enum-known-bin : tie.Need-enum-known-bin
+enum-known-bin c = search needs
+
+updated-requires : tie.Need-updated-requires
+updated-requires c κs = good (c .before .before .before .before .before) .0
+
+updated-requires-2 : tie.Need-updated-requires-2
+updated-requires-2 c κs = good (c .before .before .before .before .before .before) .1
+
+enum-known-r : tie.Need-enum-known-r
+enum-known-r c = search needs
+
+enum-known-r-2 : tie.Need-enum-known-r-2
+enum-known-r-2 c = search needs
+
+-- the step's answer, by the definition's prediction
+stepped : (c : tie.After-step) → steppedSays (c .step .result) ≡ stepping (c .before .before .before .before .before .before .before) tt
+stepped c =
+    let a = c .before .before .before .before .before .before .before .args in
+    c .step .ensures ∙ ap (stepOf (payload (a .bytes .now) (a .count)) (a .x)) (c .before .pair .ensures)
+
+returns : tie.Need-returns
+unfolding decodePairOf
+returns c =
+    let u = c .before in
+    let k = u .before in
+    let s = k .before .before .before in
+    let b = k .before .bin .given in
+    let e = s .before .before .before .before .before .before .before in
+    ap (λ d. done (b .0 .0, b .0 .1 .0, d, c .updated2 .result)) (u .updated .ensures)
+    ∙ ap (λ d. done (b .0 .0, b .0 .1 .0, updateOf (e .args .a) (b .0 .0), d)) (c .updated2 .ensures)
+    ∙ goes-on (stepping e) (updating e) (fine (s .before .before)) (b .0 .0, b .0 .1 .0) (ap steppedSays (sym (b .1)) ∙ stepped s)
+
+returns-2 : tie.Need-returns-2
+unfolding decodePairOf
+returns-2 c =
+    let s = c .before .before .before in
+    let e = s .before .before .before .before .before .before .before in
+    stops-next (stepping e) (updating e) (fine (s .before .before)) (c .before .r .given .0 .0) (ap steppedSays (sym (c .before .r .given .1)) ∙ stepped s)
+
+returns-3 : tie.Need-returns-3
+unfolding decodePairOf
+returns-3 c = stops (c .before .r2 .given .0 .0) _ (ap checkedSays (sym (c .before .r2 .given .1)) ∙ first (c .before .before .before))
+
+pub decode-pair-spec : {M : Type 1} → statement M
+decode-pair-spec =
+    tie.close
+    (tie.spec
+    good-pair-requires
+    guard-requires
+    enum-told
+    pair-requires
+    step-requires
+    enum-known-bin
+    updated-requires
+    updated-requires-2
+    enum-known-r
+    enum-known-r-2
+    returns
+    returns-2
+    returns-3)

@@ -1,0 +1,40 @@
+-- A step with p 0, once nothing is refused.
+use mathlib.Core.Path.{_≡_, sym, ap, _∙_}
+use native.Mathlib.Omega.{arith}
+use Rattle.bits.specs.Answers.{done}
+use mathlib.Core.Bool.{true}
+use Rattle.aec.specs.Bins.{refusedFirst}
+use Rattle.aec.specs.Says.{checkedSays}
+use Rattle.aec.proofs.LawsAnswers.{goes, stops}
+use Rattle.aec.proofs.LawsSteps.{first-held}
+use borrow.Author.Needs.{needs}
+use Rattle.aec.proofs.plain.Statement.{statement}
+use Rattle.aec.proofs.plain.Tie as tie
+
+guard-requires : tie.Need-guard-requires
+guard-requires c κs = search needs
+
+enum-told : tie.Need-enum-told
+enum-told c = search needs
+
+fine : (c : tie.After-enum-told) → let a = c .before .before .before .before .args in done tt ≡ refusedFirst (a .bytes .now) (a .count) (a .x) true
+fine c = ap checkedSays (sym (c .enum-told .given .1)) ∙ c .before .before .guard .ensures
+
+step-requires : tie.Need-step-requires
+step-requires c κs =
+    let e = c .before .before .before .before in
+    let h = first-held _ _ _ _ (sym (fine c)) in
+    (h .0, h .1, omega arith, e .pre .0, e .pre .1)
+
+enum-known-r : tie.Need-enum-known-r
+enum-known-r c = search needs
+
+returns : tie.Need-returns
+returns c = c .step .ensures ∙ goes _ (fine (c .before))
+
+returns-2 : tie.Need-returns-2
+returns-2 c = stops (c .before .r .given .0 .0) _ (ap checkedSays (sym (c .before .r .given .1)) ∙ c .before .before .before .guard .ensures)
+
+pub plain-spec : {M : Type 1} → statement M
+plain-spec =
+    tie.close (tie.spec guard-requires enum-told step-requires enum-known-r returns returns-2)

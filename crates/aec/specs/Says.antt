@@ -1,0 +1,62 @@
+-- What each answer says in document 01's terms: its number, and its values.
+use Prim.Native.Nat.{ℕ}
+use mathlib.Core.List.{[]}
+use Rattle.bits.specs.Answers.{Outcome, done, refused, TOO-LONG, BAD-STATE, PAYLOAD-OUT}
+use Rattle.aec.specs.declared.State.{State}
+use Rattle.aec.specs.declared.Context.{Context}
+use Rattle.aec.specs.declared.Shift.{Shift}
+use Rattle.aec.specs.declared.Refusal.{Refusal}
+use Rattle.aec.specs.declared.Refusal.the-variants as refusal
+use Rattle.aec.specs.declared.Checked.{Checked}
+use Rattle.aec.specs.declared.Checked.the-variants as checked
+use Rattle.aec.specs.declared.Doubled.{Doubled}
+use Rattle.aec.specs.declared.Doubled.the-variants as doubled
+use Rattle.aec.specs.declared.Shifted.{Shifted}
+use Rattle.aec.specs.declared.Shifted.the-variants as shifted
+use Rattle.aec.specs.declared.Started.{Started}
+use Rattle.aec.specs.declared.Started.the-variants as started
+use Rattle.aec.specs.declared.Stepped.{Stepped}
+use Rattle.aec.specs.declared.Stepped.the-variants as stepped
+use Rattle.aec.specs.declared.Decoded.{Decoded}
+use Rattle.aec.specs.declared.Decoded.the-variants as decoded
+use Rattle.aec.specs.declared.DecodedPair.{DecodedPair}
+use Rattle.aec.specs.declared.DecodedPair.the-variants as decoded-pair
+
+-- a refusal's number; it carries nothing
+abbrev pub refusalSays : {A : Type 0} → Refusal → Outcome A
+refusalSays refusal.TooLong = refused TOO-LONG []
+refusalSays refusal.BadState = refused BAD-STATE []
+refusalSays refusal.PayloadOut = refused PAYLOAD-OUT []
+
+-- the start
+abbrev pub startedSays : Started → Outcome State
+startedSays (started.Done x) = done x
+startedSays (started.Refused r) = refusalSays r
+
+-- bypass and the stuffing bin: a bin and the next state
+abbrev pub steppedSays : Stepped → Outcome (ℕ × State)
+steppedSays (stepped.Done bin x) = done (bin, x)
+steppedSays (stepped.Refused r) = refusalSays r
+
+-- one context: a bin, the next state and the updated context
+abbrev pub decodedSays : Decoded → Outcome (ℕ × State × Context)
+decodedSays (decoded.Done bin x c) = done (bin, x, c)
+decodedSays (decoded.Refused r) = refusalSays r
+
+-- two contexts
+abbrev pub decodedPairSays : DecodedPair → Outcome (ℕ × State × Context × Context)
+decodedPairSays (decoded-pair.Done bin x a b) = done (bin, x, a, b)
+decodedPairSays (decoded-pair.Refused r) = refusalSays r
+
+-- the answers of the steps inside
+abbrev pub checkedSays : Checked → Outcome (Unit {0})
+checkedSays checked.Fine = done tt
+checkedSays (checked.Refused r) = refusalSays r
+
+abbrev pub doubledSays : Doubled → Outcome (ℕ × ℕ)
+doubledSays (doubled.Done value place) = done (value, place)
+doubledSays (doubled.Refused r) = refusalSays r
+
+abbrev pub shiftedSays : Shifted → Outcome Shift
+shiftedSays (shifted.Done z) = done z
+shiftedSays (shifted.Refused r) = refusalSays r

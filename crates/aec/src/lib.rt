@@ -1,0 +1,519 @@
+// The arithmetic bin decoder, by value.
+ghost use mathlib.Core.Path.{_≡_};
+ghost use mathlib.Core.Bool.{true, _&&_};
+ghost use Prim.Native.Nat.{_*_, _≤_, _<_};
+ghost use lib.ListN.{length, drop};
+ghost use Rattle.bits.specs.Bits.{payload};
+ghost use Rattle.aec.specs.Bins.{goodState, goodContext, freshContext, refusedFirst};
+ghost use Rattle.aec.specs.Bins.{doubleOf, normaliseOf, widenOf, settleOf, startOf};
+ghost use Rattle.aec.specs.Bins.{splitOf, missesOf, remainderOf, unpredictedOf, stepOf};
+ghost use Rattle.aec.specs.Bins.{pairOf, plainOf, bypassOf, stuffingOf, decodeOf, decodePairOf};
+ghost use Rattle.aec.specs.Bins.{rateOf, gainOf, nextLg, nextCycno, updateOf};
+ghost use Rattle.aec.specs.Says.{checkedSays, doubledSays, shiftedSays, startedSays, steppedSays, decodedSays, decodedPairSays};
+use bits::Bit;
+use bits::Read;
+
+// Document 01's rS, rT, valueS and valueT, and the place of the next bit.
+pub struct State {
+    pub rs: u32,
+    pub rt: u32,
+    pub vs: u32,
+    pub vt: u32,
+    pub place: usize,
+}
+
+// Document 01's mps, the likelier bin, with lg and cycno.
+pub struct Context {
+    pub mps: u32,
+    pub lg: u32,
+    pub cycno: u32,
+}
+
+// Of a refusal the answer carries nothing else: state and contexts are the caller's own.
+pub enum Refusal {
+    TooLong,
+    BadState,
+    PayloadOut,
+}
+
+pub enum Started {
+    Done(State),
+    Refused(Refusal),
+}
+
+// A bin and the next state.
+pub enum Stepped {
+    Done(u32, State),
+    Refused(Refusal),
+}
+
+// A bin, the next state and the updated context.
+pub enum Decoded {
+    Done(u32, State, Context),
+    Refused(Refusal),
+}
+
+// A bin, the next state and both updated contexts.
+pub enum DecodedPair {
+    Done(u32, State, Context, Context),
+    Refused(Refusal),
+}
+
+enum Checked {
+    Fine,
+    Refused(Refusal),
+}
+
+// A doubled number and the place after its bit.
+enum Doubled {
+    Done(u32, usize),
+    Refused(Refusal),
+}
+
+// A number that takes bits, the number that is stepped beside it, and the place of the next bit.
+struct Shift {
+    value: u32,
+    beside: u32,
+    place: usize,
+}
+
+enum Shifted {
+    Done(Shift),
+    Refused(Refusal),
+}
+
+// s, t and R of a bin.
+struct Split {
+    s: u32,
+    t: u32,
+    range: u32,
+}
+
+// The predicted bin p, and lg.
+struct Prediction {
+    p: u32,
+    lg: u32,
+}
+
+// The most bytes that may be lent.
+const LIMIT: usize = 65536;
+
+// A fresh context.
+pub fn fresh() -> Context
+    ensures { λ r. ⌜ r ≡ freshContext ⌝ }
+{
+    Context {
+        mps: 0,
+        lg: 1023,
+        cycno: 0,
+    }
+}
+
+fn good_state(x: State, end: usize) -> bool
+    ensures { λ r. ⌜ r ≡ goodState end x ⌝ }
+{
+    if x.vs < x.rs {
+        return false;
+    }
+    if 524288 < x.vs {
+        return false;
+    }
+    if 255 < x.rt {
+        return false;
+    }
+    if 255 < x.vt {
+        return false;
+    }
+    if end < x.place {
+        return false;
+    }
+    true
+}
+
+fn good_context(c: Context) -> bool
+    ensures { λ r. ⌜ r ≡ goodContext c ⌝ }
+{
+    if 1 < c.mps {
+        return false;
+    }
+    if c.lg < 4 {
+        return false;
+    }
+    if 1023 < c.lg {
+        return false;
+    }
+    if 3 < c.cycno {
+        return false;
+    }
+    true
+}
+
+// The number of the payload's bits.
+fn bit_length(bytes: &[u8], count: usize) -> usize
+    requires { ⌜ length (now bytes) ≤ 65536 ⌝ }
+    ensures { λ r. ⌜ r ≡ length (payload (now (bytes .entry)) count) ⌝ }
+{
+    let all = bytes.len() * 8;
+    if count < all { count } else { all }
+}
+
+// What is refused before a bit is read.
+fn guard(bytes: &[u8], count: usize, x: State, contexts: bool) -> Checked
+    ensures { λ r. ⌜ checkedSays r ≡ refusedFirst (now (bytes .entry)) count x contexts ⌝ }
+{
+    if LIMIT < bytes.len() {
+        return Checked::Refused(Refusal::TooLong);
+    }
+    let end = bit_length(bytes, count);
+    if !good_state(x, end) {
+        return Checked::Refused(Refusal::BadState);
+    }
+    if !contexts {
+        return Checked::Refused(Refusal::BadState);
+    }
+    Checked::Fine
+}
+
+// Twice a number and the next bit: every bit but the first nine is read here.
+fn take_bit(bytes: &[u8], count: usize, value: u32, place: usize) -> Doubled
+    requires { ⌜ value < 2147483648 ⌝ }
+    ensures { λ r. ⌜ doubledSays r ≡ doubleOf (drop place (payload (now (bytes .entry)) count)) value place ⌝ }
+{
+    let twice = value * 2;
+    match bits::read_bit(bytes, count, place) {
+        Bit::Is(bit) => Doubled::Done(twice + bit, place + 1),
+        Bit::Missing => Doubled::Refused(Refusal::PayloadOut),
+    }
+}
+
+// Doubles the value, with the next bits, while it is below 256, and counts how often.
+fn normalise(bytes: &[u8], count: usize, value: u32, place: usize) -> Shifted
+    requires { ⌜ (length (now bytes) ≤ 65536) × (place ≤ length (payload (now bytes) count)) × (value < 1048576) ⌝ }
+    ensures { λ r. ⌜ shiftedSays r ≡ normaliseOf (payload (now (bytes .entry)) count) value place ⌝ }
+{
+    let mut v = value;
+    let mut n: u32 = 0;
+    let mut at = place;
+    while v < 256 {
+        match take_bit(bytes, count, v, at) {
+            Doubled::Done(more, next) => {
+                v = more;
+                n += 1;
+                at = next;
+            }
+            Doubled::Refused(r) => {
+                return Shifted::Refused(r);
+            }
+        }
+    }
+    Shifted::Done(Shift {
+        value: v,
+        beside: n,
+        place: at,
+    })
+}
+
+// Doubles the range while it is below 256, and the value with it, with the next bits.
+fn widen(bytes: &[u8], count: usize, value: u32, range: u32, place: usize) -> Shifted
+    requires { ⌜ (length (now bytes) ≤ 65536) × (place ≤ length (payload (now bytes) count)) × (value < 768 * range) × (range < 512) ⌝ }
+    ensures { λ r. ⌜ shiftedSays r ≡ widenOf (payload (now (bytes .entry)) count) value range place ⌝ }
+{
+    let mut v = value;
+    let mut wide = range;
+    let mut at = place;
+    while wide < 256 {
+        match take_bit(bytes, count, v, at) {
+            Doubled::Done(more, next) => {
+                v = more;
+                wide *= 2;
+                at = next;
+            }
+            Doubled::Refused(r) => {
+                return Shifted::Refused(r);
+            }
+        }
+    }
+    Shifted::Done(Shift {
+        value: v,
+        beside: wide,
+        place: at,
+    })
+}
+
+// The state of a normalised value.
+fn settle(bytes: &[u8], count: usize, rt: u32, value: u32, place: usize) -> Started
+    requires { ⌜ (length (now bytes) ≤ 65536) × (place ≤ length (payload (now bytes) count)) × (value < 1048576) ⌝ }
+    ensures { λ r. ⌜ startedSays r ≡ settleOf (payload (now (bytes .entry)) count) rt value place ⌝ }
+{
+    match normalise(bytes, count, value, place) {
+        Shifted::Done(z) => Started::Done(State {
+            rs: 0,
+            rt: rt,
+            vs: z.beside,
+            vt: z.value % 256,
+            place: z.place,
+        }),
+        Shifted::Refused(r) => Started::Refused(r),
+    }
+}
+
+// The state that a payload begins with.
+pub fn start(bytes: &[u8], count: usize) -> Started
+    ensures { λ r. ⌜ startedSays r ≡ startOf (now (bytes .entry)) count ⌝ }
+{
+    if LIMIT < bytes.len() {
+        return Started::Refused(Refusal::TooLong);
+    }
+    match bits::read_bits(bytes, count, 0, 9) {
+        Read::Value(value) => settle(bytes, count, 255, value, 9),
+        Read::Missing => Started::Refused(Refusal::PayloadOut),
+        Read::TooWide => Started::Refused(Refusal::PayloadOut),
+    }
+}
+
+// s, t and R, by whether rT reaches q.
+fn split_range(x: State, q: u32) -> Split
+    requires { ⌜ (x .rs ≤ 524288) × (x .rt ≤ 255) × (q ≤ 255) ⌝ }
+    ensures { λ r. ⌜ r ≡ splitOf x q ⌝ }
+{
+    if q <= x.rt {
+        return Split {
+            s: x.rs,
+            t: x.rt - q,
+            range: q,
+        };
+    }
+    Split {
+        s: x.rs + 1,
+        t: 256 + x.rt - q,
+        range: x.rt + q,
+    }
+}
+
+// Whether the bin is not the predicted one.
+fn misses(x: State, y: Split) -> bool
+    ensures { λ r. ⌜ r ≡ missesOf x y ⌝ }
+{
+    if x.vs < y.s {
+        return true;
+    }
+    if y.s < x.vs {
+        return false;
+    }
+    y.t <= x.vt
+}
+
+// valueT less t. Where s is past valueS it borrows 256 and takes the next bit first.
+fn remainder(bytes: &[u8], count: usize, x: State, y: Split) -> Doubled
+    requires { ⌜ (x .vt ≤ 255) × (y .t ≤ 255) × (missesOf x y ≡ true) ⌝ }
+    ensures { λ r. ⌜ doubledSays r ≡ remainderOf (payload (now (bytes .entry)) count) x y ⌝ }
+{
+    if y.s == x.vs {
+        return Doubled::Done(x.vt - y.t, x.place);
+    }
+    match take_bit(bytes, count, x.vt, x.place) {
+        Doubled::Done(more, next) => Doubled::Done(256 + more - y.t, next),
+        Doubled::Refused(r) => Doubled::Refused(r),
+    }
+}
+
+// The state after a bin that was not predicted.
+fn unpredicted(bytes: &[u8], count: usize, x: State, y: Split) -> Started
+    requires { ⌜ (length (now bytes) ≤ 65536) × (goodState (length (payload (now bytes) count)) x ≡ true) × (missesOf x y ≡ true) × (y .t ≤ 255) × (1 ≤ y .range) × (y .range < 512) ⌝ }
+    ensures { λ r. ⌜ startedSays r ≡ unpredictedOf (payload (now (bytes .entry)) count) x y ⌝ }
+{
+    match remainder(bytes, count, x, y) {
+        Doubled::Done(value, place) => match widen(bytes, count, value, y.range, place) {
+            Shifted::Done(z) => settle(bytes, count, z.beside % 256, z.value, z.place),
+            Shifted::Refused(r) => Started::Refused(r),
+        },
+        Doubled::Refused(r) => Started::Refused(r),
+    }
+}
+
+// One bin, of a state within its ranges.
+fn step(bytes: &[u8], count: usize, x: State, g: Prediction) -> Stepped
+    requires { ⌜ (length (now bytes) ≤ 65536) × (goodState (length (payload (now bytes) count)) x ≡ true) × (g .p ≤ 1) × (4 ≤ g .lg) × (g .lg ≤ 1023) ⌝ }
+    ensures { λ r. ⌜ steppedSays r ≡ stepOf (payload (now (bytes .entry)) count) x g ⌝ }
+{
+    let y = split_range(x, g.lg / 4);
+    if misses(x, y) {
+        return match unpredicted(bytes, count, x, y) {
+            Started::Done(z) => Stepped::Done(1 - g.p, z),
+            Started::Refused(r) => Stepped::Refused(r),
+        };
+    }
+    Stepped::Done(
+        g.p,
+        State {
+            rs: y.s,
+            rt: y.t,
+            vs: x.vs,
+            vt: x.vt,
+            place: x.place,
+        },
+    )
+}
+
+// A bin of no context, predicted 0.
+fn plain(bytes: &[u8], count: usize, x: State, lg: u32) -> Stepped
+    requires { ⌜ (4 ≤ lg) × (lg ≤ 1023) ⌝ }
+    ensures { λ r. ⌜ steppedSays r ≡ plainOf (now (bytes .entry)) count x lg ⌝ }
+{
+    match guard(bytes, count, x, true) {
+        Checked::Fine => step(bytes, count, x, Prediction { p: 0, lg }),
+        Checked::Refused(r) => Stepped::Refused(r),
+    }
+}
+
+// A bypass bin.
+pub fn bypass(bytes: &[u8], count: usize, x: State) -> Stepped
+    ensures { λ r. ⌜ steppedSays r ≡ bypassOf (now (bytes .entry)) count x ⌝ }
+{
+    plain(bytes, count, x, 1023)
+}
+
+// The stuffing bin.
+pub fn stuffing(bytes: &[u8], count: usize, x: State) -> Stepped
+    ensures { λ r. ⌜ steppedSays r ≡ stuffingOf (now (bytes .entry)) count x ⌝ }
+{
+    plain(bytes, count, x, 4)
+}
+
+// The prediction of two contexts: on a tie the second's.
+fn pair(a: Context, b: Context) -> Prediction
+    requires { ⌜ (goodContext a ≡ true) × (goodContext b ≡ true) ⌝ }
+    ensures { λ r. ⌜ r ≡ pairOf a b ⌝ }
+{
+    if a.mps == b.mps {
+        let sum = a.lg + b.lg;
+        return Prediction {
+            p: a.mps,
+            lg: sum / 2,
+        };
+    }
+    if a.lg < b.lg {
+        let apart = b.lg - a.lg;
+        let lg = 1023 - apart / 2;
+        return Prediction { p: a.mps, lg };
+    }
+    let apart = a.lg - b.lg;
+    let lg = 1023 - apart / 2;
+    Prediction { p: b.mps, lg }
+}
+
+// w, by the cycno.
+fn rate(cycno: u32) -> u32
+    ensures { λ r. ⌜ r ≡ rateOf cycno ⌝ }
+{
+    if cycno <= 1 {
+        return 3;
+    }
+    if cycno == 2 { 4 } else { 5 }
+}
+
+// What lg gains where the bin was not the context's mps.
+fn gain(w: u32) -> u32
+    ensures { λ r. ⌜ r ≡ gainOf w ⌝ }
+{
+    if w == 3 {
+        return 197;
+    }
+    if w == 4 { 95 } else { 46 }
+}
+
+// The next lg where the bin was the context's mps.
+fn next_lg(w: u32, lg: u32) -> u32
+    requires { ⌜ (3 ≤ w) × (w ≤ 5) ⌝ }
+    ensures { λ r. ⌜ r ≡ nextLg w lg ⌝ }
+{
+    lg - (lg >> w) - (lg >> (w + 2))
+}
+
+// The next cycno; hit says that the bin was the context's mps.
+fn next_cycno(hit: bool, cycno: u32) -> u32
+    requires { ⌜ cycno ≤ 3 ⌝ }
+    ensures { λ r. ⌜ r ≡ nextCycno hit cycno ⌝ }
+{
+    if hit {
+        if cycno == 0 {
+            return 1;
+        }
+        return cycno;
+    }
+    if cycno < 3 { cycno + 1 } else { 3 }
+}
+
+// A context after a bin. The rate goes by the cycno before.
+fn updated(c: Context, bin: u32) -> Context
+    requires { ⌜ goodContext c ≡ true ⌝ }
+    ensures { λ r. ⌜ r ≡ updateOf c bin ⌝ }
+{
+    let mps = c.mps;
+    let lg = c.lg;
+    let cycno = c.cycno;
+    let hit = bin == mps;
+    let next = next_cycno(hit, cycno);
+    let w = rate(cycno);
+    if hit {
+        return Context {
+            mps: mps,
+            lg: next_lg(w, lg),
+            cycno: next,
+        };
+    }
+    let more = lg + gain(w);
+    if more <= 1023 {
+        return Context {
+            mps: mps,
+            lg: more,
+            cycno: next,
+        };
+    }
+    Context {
+        mps: 1 - mps,
+        lg: 2047 - more,
+        cycno: next,
+    }
+}
+
+// A bin of one context.
+pub fn decode(bytes: &[u8], count: usize, x: State, c: Context) -> Decoded
+    ensures { λ r. ⌜ decodedSays r ≡ decodeOf (now (bytes .entry)) count x c ⌝ }
+{
+    match guard(bytes, count, x, good_context(c)) {
+        Checked::Fine => match step(bytes, count, x, Prediction { p: c.mps, lg: c.lg }) {
+            Stepped::Done(bin, next) => Decoded::Done(bin, next, updated(c, bin)),
+            Stepped::Refused(r) => Decoded::Refused(r),
+        },
+        Checked::Refused(r) => Decoded::Refused(r),
+    }
+}
+
+// Whether two contexts are within their ranges.
+fn good_pair(a: Context, b: Context) -> bool
+    ensures { λ r. ⌜ r ≡ (goodContext a && goodContext b) ⌝ }
+{
+    if good_context(a) {
+        return good_context(b);
+    }
+    false
+}
+
+// A bin of two contexts. Both are updated.
+pub fn decode_pair(bytes: &[u8], count: usize, x: State, a: Context, b: Context) -> DecodedPair
+    ensures { λ r. ⌜ decodedPairSays r ≡ decodePairOf (now (bytes .entry)) count x a b ⌝ }
+{
+    match guard(bytes, count, x, good_pair(a, b)) {
+        Checked::Fine => match step(bytes, count, x, pair(a, b)) {
+            Stepped::Done(bin, next) => DecodedPair::Done(
+                bin,
+                next,
+                updated(a, bin),
+                updated(b, bin),
+            ),
+            Stepped::Refused(r) => DecodedPair::Refused(r),
+        },
+        Checked::Refused(r) => DecodedPair::Refused(r),
+    }
+}

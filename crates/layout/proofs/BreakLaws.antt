@@ -1,0 +1,301 @@
+-- Reading refuses exactly what breaks the layout.
+use Prim.Native.Nat.{ℕ, zero, suc, _+_, _*_, _≤_, _<_}
+use mathlib.Core.Path.{_≡_, refl, sym, ap, _∙_, subst}
+use mathlib.Core.List.{List, [], _∷_, _++_}
+use mathlib.Core.Bool.{Bool, true, false, cond, not}
+use mathlib.Core.Option.{Option, none, some}
+use native.Mathlib.Omega.{arith}
+use borrow.Author.Tests.{eqb-true, eqb-false, eq-eqb, ne-eqb, ltb-true, ltb-false, not-true}
+use lib.Dec.{eqb, ltb}
+use lib.ListN.{length, take, drop, take-append-drop}
+use lib.Seq.{take-at, drop-at}
+use Rattle.bits.specs.Lists.{All}
+use Rattle.bits.specs.Bits.{bitsOf, readOn, readAt}
+use Rattle.bits.specs.declared.Read.{Read}
+use Rattle.bits.specs.declared.Read.the-variants as read
+use Rattle.bits.proofs.Lists.{by-test}
+use Rattle.bits.proofs.Laws.{length-bits, read-fits}
+use Rattle.bits.proofs.Main.{missing-exactly}
+use Rattle.layout.specs.Layouts.{nameOf, widthOf, ruleOf, Allowed, byRule, faultAt, fields, bitCount, leastBytes}
+use Rattle.layout.specs.Records.{copyrightRecord}
+use Rattle.layout.specs.Obeys.{Fits, AllAllowed, written}
+use Rattle.layout.specs.Breaks.{Holds, FirstWrong, Disowned, unflagged, unowned, BreaksAcross, Breaks, short, wrong, across, ended}
+use Rattle.layout.specs.Reading.{allows, Result, good, bad, _>>=_, _>>_, refuseIf, both, valuesOf, judge, ownerRules, crossRecord, cross, judged, stuffing, reading}
+use Rattle.layout.specs.Reading as reader
+use Rattle.layout.specs.declared.Name.{Name}
+use Rattle.layout.specs.declared.Name.the-variants.{Owner, CopyrightNumber}
+use Rattle.layout.specs.declared.Values.{Values}
+use Rattle.layout.specs.declared.Values.the-variants as rule
+use Rattle.layout.specs.declared.Field.{Field}
+use Rattle.layout.specs.declared.Layout.{Layout}
+use Rattle.layout.specs.declared.Layout.the-variants.{Header, Display, Coloured, Copyright}
+use Rattle.layout.specs.declared.Fault.{Fault}
+use Rattle.layout.specs.declared.Fault.the-variants as fault
+use Rattle.layout.specs.declared.Verdict.{Verdict}
+use Rattle.layout.specs.declared.Verdict.the-variants.{Fine, Faulty}
+use Rattle.layout.specs.declared.CopyrightExtension.{CopyrightExtension}
+use Rattle.layout.proofs.LayoutLaws.{table, fits-length, spelled}
+use Rattle.layout.proofs.ReadingLaws.{values-first}
+use Rattle.layout.proofs.JudgeLaws.{checked, reading-short, reading-long}
+use Rattle.layout.proofs.RecordLaws.{unowned-rules, owned-rules}
+use Rattle.layout.proofs.ObeyLaws.{both-fine, read-written, written-read, written-length, allowed-if, if-allowed, judge-fine, fine-judge, cross-fine, fine-cross, stuffing-is, is-stuffing}
+
+-- ── a body that is long enough has all its values ──
+
+never-wide : (acc w : ℕ) (l : List ℕ) → readOn acc w l ≡ read.TooWide → ⊥
+unfolding readOn
+never-wide acc zero l e = let z : _≡_ {A = ℕ} 0 1 = cc in omega arith
+never-wide acc (suc w) [] e = let z : _≡_ {A = ℕ} 0 1 = cc in omega arith
+never-wide acc (suc w) (b ∷ l) e = never-wide (acc * 2 + b) w l e
+
+read-there : (l : List ℕ) (at w : ℕ) → w ≤ 32 → at + w ≤ length l → (x : Read) → readAt l at w ≡ x → (v : ℕ) × (readAt l at w ≡ read.Value v)
+read-there l at w n h (read.Value v) e = (v, e)
+read-there l at w n h read.Missing e = let m = missing-exactly l at w .0 e in absurd (omega (arith, m .1))
+read-there l at w n h read.TooWide e = absurd (never-wide 0 w (drop at l) (sym (read-fits l at w n) ∙ e))
+
+values-there : (l : List ℕ) (fs : List Field) (at : ℕ) → All (λ (f : Field). widthOf f ≤ 32) fs → at + bitCount fs ≤ length l →
+    (vs : List ℕ) × (valuesOf fs at l ≡ good vs)
+values-there l [] at n h = ([], unfold valuesOf in refl)
+values-there l (f ∷ fs) at n h =
+    let v = read-there l at (widthOf f) (n .0) (omega arith) (readAt l at (widthOf f)) refl in
+    let vs = values-there l fs (at + widthOf f) (n .1) (omega arith) in
+    (v .0 ∷ vs .0, values-first (f ∷ fs) fs f at (v .0) l refl (v .1) ∙ ap (λ (r : Result (List ℕ)). r >>= (λ us. good (v .0 ∷ us))) (vs .1))
+
+-- what a body holds is what is read of it
+pub held-read : (layout : Layout) (body vs end : List ℕ) → Holds layout body vs end → valuesOf (fields layout) 0 (bitsOf body) ≡ good vs
+held-read layout body vs end h =
+    let len = written-length (fields layout) vs (h .fits) in
+    written-read body (fields layout) 0 vs (table layout .narrow) (h .fits) (ap (take (bitCount (fields layout))) (h .bits) ∙ take-at (written (fields layout) vs) end _ len)
+
+held-end : (layout : Layout) (body vs end : List ℕ) → Holds layout body vs end → drop (bitCount (fields layout)) (bitsOf body) ≡ end
+held-end layout body vs end h = ap (drop (bitCount (fields layout))) (h .bits) ∙ drop-at (written (fields layout) vs) end _ (written-length (fields layout) vs (h .fits))
+
+-- a body that is long enough holds some values
+pub holds : (layout : Layout) (body : List ℕ) → leastBytes layout ≤ length body → (vs : List ℕ) × Holds layout body vs (drop (bitCount (fields layout)) (bitsOf body))
+holds layout body h =
+    let t = table layout in
+    let l = length-bits body in
+    let r = values-there (bitsOf body) (fields layout) 0 (t .narrow) (omega (arith, t .whole)) in
+    let w = read-written body (fields layout) 0 (r .0) (r .1) in
+    (r .0, record { long = h; fits = w .0; bits = sym (take-append-drop (bitCount (fields layout)) (bitsOf body)) ∙ ap (λ (l : List ℕ). l ++ drop (bitCount (fields layout)) (bitsOf body)) (w .1) })
+
+-- so reading it is judging them
+pub held-reading : (layout : Layout) (body vs end : List ℕ) → Holds layout body vs end → reading layout body ≡ (judged layout vs >> (reader.ended layout body >> good vs))
+held-reading layout body vs end h = reading-long layout body (h .long) ∙ ap (checked layout body) (held-read layout body vs end h)
+
+-- ── verdicts ──
+
+then-bad : {A : Type 0} (v : Verdict) (r : Result A) (why : Fault) → v ≡ Faulty why → (v >> r) ≡ bad why
+then-bad v r why e = rw e
+
+fine-then : {A : Type 0} (v : Verdict) (r : Result A) → v ≡ Fine → (v >> r) ≡ r
+fine-then v r e = rw e
+
+faulty-same : (a b : Fault) → Faulty a ≡ Faulty b → a ≡ b
+faulty-same a b e = cc
+
+bad-same : {A : Type 0} (a b : Fault) → _≡_ {A = Result A} (bad a) (bad b) → a ≡ b
+bad-same a b e = cc
+
+-- ── the first field that is ruled out ──
+
+-- one more field before the first that is ruled out
+one-more : (f : Field) (fs : List Field) (at v : ℕ) (vs : List ℕ) (why : Fault) → Allowed (ruleOf f) v → FirstWrong fs (at + widthOf f) vs why → FirstWrong (f ∷ fs) at (v ∷ vs) why
+unfolding AllAllowed
+one-more f fs at v vs why a w =
+    record {
+      before = f ∷ w .before;
+      field = w .field;
+      after = w .after;
+      earlier = v ∷ w .earlier;
+      value = w .value;
+      later = w .later;
+      all-fields = ap (λ (l : List Field). f ∷ l) (w .all-fields);
+      all-values = ap (λ (l : List ℕ). v ∷ l) (w .all-values);
+      allowed = (a, w .allowed);
+      ruled-out = w .ruled-out;
+      refused = w .refused ∙ ap (faultAt (w .field)) (let e : at + widthOf f + bitCount (w .before) ≡ at + (widthOf f + bitCount (w .before)) = omega arith in e);
+    }
+
+here : (f : Field) (fs : List Field) (at v : ℕ) (vs : List ℕ) → (Allowed (ruleOf f) v → ⊥) → FirstWrong (f ∷ fs) at (v ∷ vs) (faultAt f at)
+unfolding AllAllowed
+here f fs at v vs n =
+    record {
+      before = [];
+      field = f;
+      after = fs;
+      earlier = [];
+      value = v;
+      later = vs;
+      all-fields = refl;
+      all-values = refl;
+      allowed = tt;
+      ruled-out = n;
+      refused = ap (faultAt f) (let e : at ≡ at + 0 = omega arith in e);
+    }
+
+both-ways : {P : Type 0} (t : Bool) → t ≡ true → t ≡ false → P
+both-ways t e f = let z : _≡_ {A = ℕ} 0 1 = cc in absurd (omega arith)
+
+judge-first : (fs : List Field) (at : ℕ) (vs : List ℕ) (why : Fault) → Fits fs vs → judge fs at vs ≡ Faulty why → FirstWrong fs at vs why
+unfolding judge Fits
+judge-first [] at [] why h e = let z : _≡_ {A = ℕ} 0 1 = cc in absurd (omega arith)
+judge-first [] at (v ∷ vs) why h e = absurd h
+judge-first (f ∷ fs) at [] why h e = absurd h
+judge-first (f ∷ fs) at (v ∷ vs) why h e =
+    by-test (allows (ruleOf f) v)
+    (λ t. one-more f fs at v vs why (allowed-if (ruleOf f) v t) (judge-first fs (at + widthOf f) vs why (h .1) (sym (ap (λ (b : Bool). cond b (judge fs (at + widthOf f) vs) (Faulty (faultAt f at))) t) ∙ e)))
+    (λ n.
+    subst (FirstWrong (f ∷ fs) at (v ∷ vs)) (faulty-same (faultAt f at) why (sym (ap (λ (b : Bool). cond b (judge fs (at + widthOf f) vs) (Faulty (faultAt f at))) n) ∙ e))
+    (here f fs at v vs (λ a. both-ways (allows (ruleOf f) v) (if-allowed (ruleOf f) v a) n)))
+
+not-allowed : (f : Field) (v : ℕ) → (Allowed (ruleOf f) v → ⊥) → allows (ruleOf f) v ≡ false
+not-allowed f v n = by-test (allows (ruleOf f) v) (λ t. absurd (n (allowed-if (ruleOf f) v t))) (λ e. e)
+
+first-judge : (before : List Field) (field : Field) (after : List Field) (at : ℕ) (earlier : List ℕ) (value : ℕ) (later : List ℕ) →
+    AllAllowed before earlier → (Allowed (ruleOf field) value → ⊥) → judge (before ++ (field ∷ after)) at (earlier ++ (value ∷ later)) ≡ Faulty (faultAt field (at + bitCount before))
+unfolding judge AllAllowed
+first-judge [] field after at [] value later h n =
+    let e : at ≡ at + 0 = omega arith in
+    ap (λ (b : Bool). cond b (judge after (at + widthOf field) later) (Faulty (faultAt field at))) (not-allowed field value n) ∙ ap (λ (k : ℕ). Faulty (faultAt field k)) e
+first-judge [] field after at (v ∷ vs) value later h n = absurd h
+first-judge (f ∷ fs) field after at [] value later h n = absurd h
+first-judge (f ∷ fs) field after at (v ∷ vs) value later h n =
+    let e : at + widthOf f + bitCount fs ≡ at + (widthOf f + bitCount fs) = omega arith in
+    ap (λ (b : Bool). cond b (judge (fs ++ (field ∷ after)) (at + widthOf f) (vs ++ (value ∷ later))) (Faulty (faultAt f at))) (if-allowed (ruleOf f) v (h .0))
+    ∙ first-judge fs field after (at + widthOf f) vs value later (h .1) n
+    ∙ ap (λ (k : ℕ). Faulty (faultAt field k)) e
+
+wrong-judge : (fs : List Field) (at : ℕ) (vs : List ℕ) (why : Fault) → FirstWrong fs at vs why → judge fs at vs ≡ Faulty why
+wrong-judge fs at vs why w =
+    ap (λ (l : List Field). judge l at vs) (w .all-fields)
+    ∙ ap (judge (w .before ++ (w .field ∷ w .after)) at) (w .all-values)
+    ∙ first-judge (w .before) (w .field) (w .after) at (w .earlier) (w .value) (w .later) (w .allowed) (w .ruled-out)
+    ∙ ap Faulty (sym (w .refused))
+
+-- ── the rules across fields ──
+
+if-same : (t : Bool) (a why : Fault) → refuseIf t a ≡ Faulty why → (t ≡ true) × (why ≡ a)
+if-same true a why e = (refl, sym (faulty-same a why e))
+if-same false a why e = let z : _≡_ {A = ℕ} 0 1 = cc in absurd (omega arith)
+
+disowned : (c : CopyrightExtension) (why : Fault) → ownerRules c ≡ Faulty why → Disowned c why
+disowned c why e =
+    by-test (eqb (c .owner) 0)
+    (λ t.
+    let o = eqb-true (c .owner) 0 t in
+    let r = if-same (not (eqb (c .number) 0)) (fault.Value CopyrightNumber 22) why (sym (unowned-rules c o refl) ∙ e) in
+    unowned o (eqb-false (c .number) 0 (not-true _ (r .0))) (r .1))
+    (λ n.
+    let o = eqb-false (c .owner) 0 n in
+    let r = if-same (eqb (c .flag) 0) (fault.Value Owner 5) why (sym (owned-rules c o refl) ∙ e) in
+    unflagged (eqb-true (c .flag) 0 (r .0)) o (r .1))
+
+disowned-rules : (c : CopyrightExtension) (why : Fault) → Disowned c why → ownerRules c ≡ Faulty why
+disowned-rules c why (unflagged f o e) = owned-rules c o (eq-eqb (c .flag) 0 f) ∙ ap Faulty (sym e)
+disowned-rules c why (unowned o n e) = unowned-rules c o (ne-eqb (c .number) 0 n) ∙ ap Faulty (sym e)
+
+-- the record is there, since there are as many values as fields
+across-record : (vs : List ℕ) (o : Option CopyrightExtension) (why : Fault) → copyrightRecord vs ≡ o → crossRecord o ≡ Faulty why → (copyrightRecord vs ≡ none → ⊥) →
+    (c : CopyrightExtension) × (copyrightRecord vs ≡ some c) × Disowned c why
+across-record vs none why e f n = absurd (n e)
+across-record vs (some c) why e f n = (c, e, disowned c why f)
+
+record-there : (vs : List ℕ) → length vs ≡ 11 → copyrightRecord vs ≡ none → ⊥
+unfolding copyrightRecord
+record-there vs h e = let z : _≡_ {A = ℕ} 0 1 = cc (sym (ap copyrightRecord (spelled 11 vs h)) ∙ e) in omega arith
+
+cross-broken : (layout : Layout) (vs : List ℕ) (why : Fault) → Fits (fields layout) vs → cross layout vs ≡ Faulty why → BreaksAcross layout vs why
+unfolding cross BreaksAcross fields
+cross-broken Header vs why h e = let z : _≡_ {A = ℕ} 0 1 = cc in omega arith
+cross-broken Display vs why h e = let z : _≡_ {A = ℕ} 0 1 = cc in omega arith
+cross-broken Coloured vs why h e = let z : _≡_ {A = ℕ} 0 1 = cc in omega arith
+cross-broken Copyright vs why h e = across-record vs (copyrightRecord vs) why refl e (record-there vs (fits-length (fields Copyright) vs h))
+
+broken-cross : (layout : Layout) (vs : List ℕ) (why : Fault) → BreaksAcross layout vs why → cross layout vs ≡ Faulty why
+unfolding cross BreaksAcross
+broken-cross Header vs why h = absurd h
+broken-cross Display vs why h = absurd h
+broken-cross Coloured vs why h = absurd h
+broken-cross Copyright vs why h = ap crossRecord (h .1) ∙ disowned-rules (h .0) why (h .2)
+
+-- ── the whole ──
+
+then-split : {A P : Type 0} (v : Verdict) (r : Result A) (why : Fault) → (v >> r) ≡ bad why → (v ≡ Faulty why → P) → (v ≡ Fine → r ≡ bad why → P) → P
+then-split Fine r why e f g = g refl e
+then-split {A} (Faulty a) r why e f g = f (ap Faulty (bad-same {A = A} a why e))
+
+both-split : {P : Type 0} (v w : Verdict) (why : Fault) → both v w ≡ Faulty why → (v ≡ Faulty why → P) → (v ≡ Fine → w ≡ Faulty why → P) → P
+both-split Fine w why e f g = g refl e
+both-split (Faulty a) w why e f g = f e
+
+pub breaks-if : (layout : Layout) (body : List ℕ) (why : Fault) → reading layout body ≡ bad why → Breaks layout body why
+unfolding judged reader.ended
+breaks-if layout body why e =
+    by-test (ltb (length body) (leastBytes layout))
+    (λ t. let h = ltb-true (length body) (leastBytes layout) t in short h (bad-same {A = List ℕ} why fault.Short (sym e ∙ reading-short layout body h)))
+    (λ n.
+    let h = holds layout body (ltb-false (length body) (leastBytes layout) n) in
+    let vs = h .0 in
+    let end = drop (bitCount (fields layout)) (bitsOf body) in
+    let first = judge (fields layout) 0 vs in
+    let fine : first ≡ Fine → AllAllowed (fields layout) vs = judge-fine (fields layout) 0 vs (h .1 .fits) in
+    then-split (judged layout vs) _ why (sym (held-reading layout body vs end (h .1)) ∙ e)
+    (λ f.
+    both-split first (cross layout vs) why f
+    (λ j. wrong vs end (h .1) (judge-first (fields layout) 0 vs why (h .1 .fits) j))
+    (λ j x. across vs end (h .1) (fine j) (cross-broken layout vs why (h .1 .fits) x)))
+    (λ f r.
+    then-split (reader.ended layout body) (good vs) why r
+    (λ s.
+    let p = both-fine first (cross layout vs) f in
+    let q = if-same (not (stuffing end)) fault.Stuffing why s in
+    ended vs end (h .1) (fine (p .0)) (cross-fine layout vs (p .1)) (λ zeros z. both-ways (stuffing end) (is-stuffing end zeros z) (not-true (stuffing end) (q .0))) (q .1))
+    (λ s g. let z : _≡_ {A = ℕ} 0 1 = cc in absurd (omega arith))))
+
+pub if-breaks : (layout : Layout) (body : List ℕ) (why : Fault) → Breaks layout body why → reading layout body ≡ bad why
+unfolding judged reader.ended
+if-breaks layout body why (short h e) = reading-short layout body h ∙ ap bad (sym e)
+if-breaks layout body why (wrong vs end h w) =
+    held-reading layout body vs end h ∙ then-bad (judged layout vs) _ why (ap (λ (v : Verdict). both v (cross layout vs)) (wrong-judge (fields layout) 0 vs why w))
+if-breaks layout body why (across vs end h a x) =
+    held-reading layout body vs end h
+    ∙ then-bad (judged layout vs) _ why (ap (λ (v : Verdict). both v (cross layout vs)) (fine-judge (fields layout) 0 vs a) ∙ broken-cross layout vs why x)
+if-breaks layout body why (ended vs end h a x n e) =
+    let s : stuffing (drop (bitCount (fields layout)) (bitsOf body)) ≡ false =
+    ap stuffing (held-end layout body vs end h) ∙ by-test (stuffing end) (λ t. let z = stuffing-is end t in absurd (n (z .0) (z .1))) (λ f. f) in
+    held-reading layout body vs end h
+    ∙ fine-then (judged layout vs) _ (ap (λ (v : Verdict). both v (cross layout vs)) (fine-judge (fields layout) 0 vs a) ∙ fine-cross layout vs x)
+    ∙ then-bad (reader.ended layout body) (good vs) why (ap (λ (t : Bool). refuseIf (not t) fault.Stuffing) s ∙ ap Faulty (sym e))
+
+-- ── SHORT ──
+
+rule-not-short : (r : Values) (n : Name) (at : ℕ) → fault.Short ≡ byRule r n at → ⊥
+rule-not-short rule.Any n at e = let z : _≡_ {A = ℕ} 0 1 = cc in omega arith
+rule-not-short rule.Set n at e = let z : _≡_ {A = ℕ} 0 1 = cc in omega arith
+rule-not-short (rule.Only one) n at e = let z : _≡_ {A = ℕ} 0 1 = cc in omega arith
+rule-not-short (rule.But one) n at e = let z : _≡_ {A = ℕ} 0 1 = cc in omega arith
+rule-not-short (rule.Within least greatest) n at e = let z : _≡_ {A = ℕ} 0 1 = cc in omega arith
+rule-not-short (rule.WithinBut least greatest one) n at e = let z : _≡_ {A = ℕ} 0 1 = cc in omega arith
+
+disowned-not-short : (c : CopyrightExtension) → Disowned c fault.Short → ⊥
+disowned-not-short c (unflagged f o e) = let z : _≡_ {A = ℕ} 0 1 = cc in omega arith
+disowned-not-short c (unowned o n e) = let z : _≡_ {A = ℕ} 0 1 = cc in omega arith
+
+across-not-short : (layout : Layout) (vs : List ℕ) → BreaksAcross layout vs fault.Short → ⊥
+unfolding BreaksAcross
+across-not-short Header vs h = h
+across-not-short Display vs h = h
+across-not-short Coloured vs h = h
+across-not-short Copyright vs h = disowned-not-short (h .0) (h .2)
+
+short-breaks : (layout : Layout) (body : List ℕ) → Breaks layout body fault.Short → length body < leastBytes layout
+unfolding faultAt
+short-breaks layout body (short h e) = h
+short-breaks layout body (wrong vs end h w) = absurd (rule-not-short (ruleOf (w .field)) (nameOf (w .field)) (0 + bitCount (w .before)) (w .refused))
+short-breaks layout body (across vs end h a x) = absurd (across-not-short layout vs x)
+short-breaks layout body (ended vs end h a x n e) = let z : _≡_ {A = ℕ} 0 1 = cc in absurd (omega arith)
+
+-- nothing but its length makes a body SHORT
+pub short-if : (layout : Layout) (body : List ℕ) → reading layout body ≡ bad fault.Short → length body < leastBytes layout
+short-if layout body e = short-breaks layout body (breaks-if layout body fault.Short e)

@@ -1,0 +1,13 @@
+-- The laws that the proofs cite, and the theorems.
+pub mod LayoutLaws
+pub mod ReadingLaws
+pub mod EndLaws
+pub mod RecordLaws
+pub mod JudgeLaws
+pub mod ObeyLaws
+pub mod BreakLaws
+pub mod AnswerLaws
+pub mod ExtensionLaws
+pub mod SaysLaws
+pub mod RatioLaws
+pub mod Main

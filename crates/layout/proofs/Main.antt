@@ -1,0 +1,96 @@
+-- What is proved of bodies beyond the contracts of the functions.
+use Prim.Native.Nat.{ℕ, _<_}
+use mathlib.Core.Path.{_≡_, sym, _∙_}
+use mathlib.Core.Logic.{_↔_, _≢_}
+use mathlib.Core.List.{List, []}
+use mathlib.Core.Bool.{true}
+use lib.ListN.{length, getD}
+use Rattle.bits.specs.Answers.{done, refused, SHORT}
+use Rattle.bits.specs.Bits.{bitsOf, bitAt}
+use Rattle.bits.specs.declared.Bit.the-variants.{Is}
+use Rattle.bits.specs.declared.Read.the-variants.{Value}
+use Rattle.layout.specs.Layouts.{leastBytes}
+use Rattle.layout.specs.Obeys.{Obeys, HeaderBody, DisplayBody, CopyrightBody}
+use Rattle.layout.specs.Breaks.{Holds, Breaks}
+use Rattle.layout.specs.Reading.{good, bad, reading}
+use Rattle.layout.specs.Answers.{faultNumber, headerSays, headerOf, display, copyright, opaque, extensionSays, numberOf, isDisplay, displayShort, extensionOf}
+use Rattle.layout.specs.declared.Layout.{Layout}
+use Rattle.layout.specs.declared.Layout.the-variants.{Header, Display, Coloured, Copyright}
+use Rattle.layout.specs.declared.Fault.{Fault}
+use Rattle.layout.specs.declared.Fault.the-variants as fault
+use Rattle.layout.specs.declared.SequenceHeader.{SequenceHeader}
+use Rattle.layout.specs.declared.DisplayExtension.{DisplayExtension}
+use Rattle.layout.specs.declared.CopyrightExtension.{CopyrightExtension}
+use Rattle.layout.specs.declared.HeaderAnswer.{HeaderAnswer}
+use Rattle.layout.specs.declared.ExtensionAnswer.{ExtensionAnswer}
+use Rattle.layout.specs.declared.Place.{Place}
+use Rattle.layout.specs.declared.Place.the-variants.{Head}
+use Rattle.layout.proofs.JudgeLaws.{reading-short}
+use Rattle.layout.proofs.ObeyLaws.{good-same, obeys-if, if-obeys}
+use Rattle.layout.proofs.BreakLaws.{breaks-if, if-breaks, short-if}
+use Rattle.layout.proofs.ExtensionLaws as laws
+use Rattle.layout.proofs.SaysLaws as says
+
+-- ── any layout ──
+
+-- Reading gives values exactly where the body obeys its layout with them.
+pub obeys-iff : (layout : Layout) (body vs : List ℕ) → (reading layout body ≡ good vs) ↔ Obeys layout body vs
+obeys-iff layout body vs = (obeys-if layout body vs, if-obeys layout body vs)
+
+-- A body has no other values.
+pub values-once : (layout : Layout) (body vs us : List ℕ) → Obeys layout body vs → Obeys layout body us → vs ≡ us
+values-once layout body vs us h k = good-same vs us (sym (if-obeys layout body vs h) ∙ if-obeys layout body us k)
+
+-- Reading refuses exactly what breaks the layout, for the first thing that does.
+pub breaks-iff : (layout : Layout) (body : List ℕ) (why : Fault) → (reading layout body ≡ bad why) ↔ Breaks layout body why
+breaks-iff layout body why = (breaks-if layout body why, if-breaks layout body why)
+
+-- SHORT is given exactly for a body of fewer bytes than asked for.
+pub short-iff : (layout : Layout) (body : List ℕ) → (reading layout body ≡ bad fault.Short) ↔ (length body < leastBytes layout)
+short-iff layout body = (short-if layout body, reading-short layout body)
+
+-- ── sequence header ──
+
+-- The record is that of the body's values, and is answered exactly where the body obeys.
+pub header-iff : (body : List ℕ) (h : SequenceHeader) → (headerOf body ≡ done h) ↔ HeaderBody body h
+header-iff body h = (laws.header-if body h, laws.if-header body h)
+
+-- A refusal has the number of what breaks the layout.
+pub header-refused-iff : (body : List ℕ) (number : ℕ) → (headerOf body ≡ refused number []) ↔ ((why : Fault) × (faultNumber why ≡ number) × Breaks Header body why)
+header-refused-iff body number = (laws.header-refused body number, laws.refused-header body number)
+
+-- ── extensions ──
+
+-- A display record is answered in a group's head, exactly for the bodies of display extensions.
+pub display-iff : (place : Place) (body : List ℕ) (d : DisplayExtension) → (extensionOf place body ≡ done (display d)) ↔ ((place ≡ Head) × DisplayBody body d)
+display-iff place body d = (laws.answers-display place body d, laws.display-answers place body d)
+
+-- A copyright record is answered anywhere, exactly for the bodies of copyright extensions.
+pub copyright-iff : (place : Place) (body : List ℕ) (c : CopyrightExtension) → (extensionOf place body ≡ done (copyright c)) ↔ CopyrightBody body c
+copyright-iff place body c = (laws.answers-copyright place body c, laws.copyright-answers place body c)
+
+-- Any other number, and number 2 after a picture header, is answered alone.
+pub opaque-iff : (place : Place) (body : List ℕ) (n : ℕ) → (extensionOf place body ≡ done (opaque n)) ↔ ((numberOf body ≡ Value n) × (n ≢ 4) × (place ≡ Head → n ≢ 2))
+opaque-iff place body n = (laws.answers-opaque place body n, laws.opaque-answers place body n)
+
+-- SHORT of a display extension is its own test, so another test can stand between it and the fields.
+pub display-short-iff : (body : List ℕ) → isDisplay body ≡ true → (extensionOf Head body ≡ refused SHORT []) ↔ (displayShort body ≡ true)
+display-short-iff body e = (laws.answers-short body e, laws.short-answers body e)
+
+-- The number and the colour bit choose the layout, so their fields have the values that it asks for, and are never refused.
+pub display-fixed : (body vs end : List ℕ) → Holds Display body vs end → numberOf body ≡ Value 2 → bitAt (bitsOf body) 8 ≡ Is 0 → (getD vs 0 0 ≡ 2) × (getD vs 3 0 ≡ 0)
+display-fixed = laws.display-fixed
+
+pub coloured-fixed : (body vs end : List ℕ) → Holds Coloured body vs end → numberOf body ≡ Value 2 → bitAt (bitsOf body) 8 ≡ Is 1 → (getD vs 0 0 ≡ 2) × (getD vs 3 0 ≡ 1)
+coloured-fixed = laws.coloured-fixed
+
+pub copyright-fixed : (body vs end : List ℕ) → Holds Copyright body vs end → numberOf body ≡ Value 4 → getD vs 0 0 ≡ 4
+copyright-fixed = laws.copyright-fixed
+
+-- ── answers are told apart by their numbers and values ──
+
+pub header-says-once : (a b : HeaderAnswer) → headerSays a ≡ headerSays b → a ≡ b
+header-says-once = says.header-once
+
+pub extension-says-once : (a b : ExtensionAnswer) → extensionSays a ≡ extensionSays b → a ≡ b
+extension-says-once = says.extension-once

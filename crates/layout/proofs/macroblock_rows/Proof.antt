@@ -1,0 +1,22 @@
+-- The division is the definition's.
+use native.Mathlib.Omega.{arith}
+use Rattle.layout.specs.Records.{macroblockRows}
+use borrow.Author.Needs.{needs}
+use Rattle.layout.proofs.macroblock_rows.Statement.{statement}
+use Rattle.layout.proofs.macroblock_rows.Tie as tie
+
+long-requires : tie.Need-long-requires
+long-requires c κs = search needs
+
+add-result : tie.Need-add-result
+add-result c = search needs
+
+cast-result : tie.Need-cast-result
+cast-result c = search needs
+
+returns : tie.Need-returns
+unfolding macroblockRows
+returns c = omega arith
+
+pub macroblock-rows-spec : {M : Type 1} → statement M
+macroblock-rows-spec = tie.close (tie.spec long-requires add-result cast-result returns)

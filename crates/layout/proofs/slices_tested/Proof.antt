@@ -1,0 +1,12 @@
+-- The test is the definition's.
+use mathlib.Core.Path.{refl}
+use Rattle.layout.specs.Records.{slicesTested}
+use Rattle.layout.proofs.slices_tested.Statement.{statement}
+use Rattle.layout.proofs.slices_tested.Tie as tie
+
+returns : tie.Need-returns
+unfolding slicesTested
+returns c = refl
+
+pub slices-tested-spec : {M : Type 1} → statement M
+slices-tested-spec = tie.close (tie.spec returns)

@@ -1,0 +1,8 @@
+-- What document 01 says of the bodies of sequence headers and extensions.
+pub mod Layouts
+pub mod Records
+pub mod Obeys
+pub mod Breaks
+pub mod Reading
+pub mod Answers
+pub mod Ratios

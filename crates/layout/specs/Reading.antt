@@ -1,0 +1,147 @@
+-- Document 01, "Refusal numbers": reading a body by its layout. SHORT, then the fields in bit order, then the rules across
+-- fields, then STUFFING.
+use Prim.Native.Nat.{ℕ, _+_}
+use mathlib.Core.List.{List, [], _∷_}
+use mathlib.Core.Bool.{Bool, true, false, cond, _&&_, not}
+use mathlib.Core.Option.{Option, none, some}
+use lib.ListN.{length, take, drop}
+use lib.Dec.{eqb, leb, ltb}
+use Rattle.bits.specs.Bits.{bitsOf, readAt}
+use Rattle.bits.specs.declared.Read.{Read}
+use Rattle.bits.specs.declared.Read.the-variants as read
+use Rattle.layout.specs.Layouts.{widthOf, ruleOf, faultAt, fields, bitCount, leastBytes}
+use Rattle.layout.specs.Records.{copyrightRecord}
+use Rattle.layout.specs.declared.Name.the-variants.{Owner, CopyrightNumber}
+use Rattle.layout.specs.declared.Values.{Values}
+use Rattle.layout.specs.declared.Values.the-variants as rule
+use Rattle.layout.specs.declared.Field.{Field}
+use Rattle.layout.specs.declared.Layout.{Layout}
+use Rattle.layout.specs.declared.Layout.the-variants.{Header, Display, Coloured, Copyright}
+use Rattle.layout.specs.declared.Fault.{Fault}
+use Rattle.layout.specs.declared.Fault.the-variants.{Short, Value, Stuffing}
+use Rattle.layout.specs.declared.Verdict.{Verdict}
+use Rattle.layout.specs.declared.Verdict.the-variants.{Fine, Faulty}
+use Rattle.layout.specs.declared.Body.{Body}
+use Rattle.layout.specs.declared.CopyrightExtension.{CopyrightExtension}
+
+infixl 10 _>>=_ _>>_
+-- ── results: what was read, or what is wrong ──
+
+pub data Result (A : Type 0) : Type 0 where
+  good : A → Result A
+  bad : Fault → Result A
+
+-- `x ← e` goes on with what e read
+abbrev pub _>>=_ : {A B : Type 0} → Result A → (A → Result B) → Result B
+_>>=_ (good a) rest = rest a
+_>>=_ (bad fault) rest = bad fault
+
+-- a verdict on a line of its own: what follows stands where it is Fine
+abbrev pub _>>_ : {A : Type 0} → Verdict → Result A → Result A
+_>>_ Fine rest = rest
+_>>_ (Faulty fault) rest = bad fault
+
+-- a fault where the test holds
+abbrev pub refuseIf : Bool → Fault → Verdict
+refuseIf true fault = Faulty fault
+refuseIf false fault = Fine
+
+-- the first verdict that is not Fine
+abbrev pub both : Verdict → Verdict → Verdict
+both Fine verdict = verdict
+both (Faulty fault) verdict = Faulty fault
+
+-- bits that are not there are SHORT; no field is wider than a read
+abbrev pub readValue : Read → Result ℕ
+readValue (read.Value n) = good n
+readValue read.Missing = bad Short
+readValue read.TooWide = bad Short
+
+-- values that are not there are SHORT
+abbrev pub recorded : {A : Type 0} → Option A → Result A
+recorded none = bad Short
+recorded (some a) = good a
+
+-- ── a body ──
+
+-- fewer bytes than asked for
+abbrev pub short : Layout → List ℕ → Bool
+short layout body = ltb (length body) (leastBytes layout)
+
+-- whether a value is allowed
+unfoldable pub allows : Values → ℕ → Bool
+allows rule.Any v = true
+allows rule.Set v = eqb v 1
+allows (rule.Only one) v = eqb v one
+allows (rule.But one) v = not (eqb v one)
+allows (rule.Within least greatest) v = leb least v && leb v greatest
+allows (rule.WithinBut least greatest one) v = leb least v && leb v greatest && not (eqb v one)
+
+-- the values of fields, of which the first begins at bit `at`
+unfoldable pub valuesOf : List Field → ℕ → List ℕ → Result (List ℕ)
+valuesOf [] at bits = good []
+valuesOf (f ∷ fs) at bits = do
+  v ← readValue (readAt bits at (widthOf f))
+  vs ← valuesOf fs (at + widthOf f) bits
+  good (v ∷ vs)
+
+-- the first field whose value is ruled out, with its first bit; the first field begins at bit `at`
+unfoldable pub judge : List Field → ℕ → List ℕ → Verdict
+judge [] at vs = Fine
+judge (f ∷ fs) at [] = Faulty Short
+judge (f ∷ fs) at (v ∷ vs) = cond (allows (ruleOf f) v) (judge fs (at + widthOf f) vs) (Faulty (faultAt f at))
+
+-- After the last field of a copyright extension, VALUE if flag 0 with owner not 0, or owner 0 with number not 0.
+-- Owner begins at bit 5, part one at bit 22.
+unfoldable pub ownerRules : CopyrightExtension → Verdict
+ownerRules c =
+    both (refuseIf (eqb (c .flag) 0 && not (eqb (c .owner) 0)) (Value Owner 5))
+    (refuseIf (eqb (c .owner) 0 && not (eqb (c .number) 0)) (Value CopyrightNumber 22))
+
+-- values that are not there are SHORT
+abbrev pub crossRecord : Option CopyrightExtension → Verdict
+crossRecord none = Faulty Short
+crossRecord (some c) = ownerRules c
+
+-- the rules across fields
+unfoldable pub cross : Layout → List ℕ → Verdict
+cross Header vs = Fine
+cross Display vs = Fine
+cross Coloured vs = Fine
+cross Copyright vs = crossRecord (copyrightRecord vs)
+
+-- what values are refused for
+unfoldable pub judged : Layout → List ℕ → Verdict
+judged layout vs = both (judge (fields layout) 0 vs) (cross layout vs)
+
+-- only zeros
+abbrev pub allZero : List ℕ → Bool
+allZero [] = true
+allZero (b ∷ l) = eqb b 0 && allZero l
+
+-- one 1, then only zeros
+abbrev pub stuffing : List ℕ → Bool
+stuffing [] = false
+stuffing (b ∷ l) = eqb b 1 && allZero l
+
+-- After the fields: one 1 bit, zeros to the byte's end, then only zero bytes; otherwise STUFFING.
+unfoldable pub ended : Layout → List ℕ → Verdict
+ended layout body = refuseIf (not (stuffing (drop (bitCount (fields layout)) (bitsOf body)))) Stuffing
+
+-- the values of a body's fields, or what is wrong
+unfoldable pub reading : Layout → List ℕ → Result (List ℕ)
+reading layout body = do
+  refuseIf (short layout body) Short
+  vs ← valuesOf (fields layout) 0 (bitsOf body)
+  judged layout vs
+  ended layout body
+  good vs
+
+-- ── what the code's Body says ──
+
+abbrev pub verdictSays : Verdict → List ℕ → Result (List ℕ)
+verdictSays Fine vs = good vs
+verdictSays (Faulty fault) vs = bad fault
+
+abbrev pub bodySays : Layout → Body → Result (List ℕ)
+bodySays layout body = verdictSays (body .verdict) (take (length (fields layout)) (body .values))
