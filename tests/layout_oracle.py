@@ -2,8 +2,8 @@
 """An independent reader of sequence header and extension bodies, written from document 01 ("Layouts", "Refusal numbers").
 
 It makes the input and the expected output of the program run_layout:
-    python3 tests/layout_oracle.py          writes crates/run_layout/stdin and crates/run_layout/stdout
-    python3 tests/layout_oracle.py --check  says whether both files are as it would write them
+    python3 tests/layout_oracle.py          prints the output, and fails if the stored input is another
+    python3 tests/layout_oracle.py --write  writes crates/run_layout/stdin and crates/run_layout/stdout
 """
 import pathlib
 import sys
@@ -283,14 +283,13 @@ def main():
     said += 'frame rates 0 to 16:' + table(dict(enumerate(rates, 1))) + '\n'
     said += 'display ratios 0 to 16:' + table({2: (4, 3), 3: (16, 9), 4: (221, 100)}) + '\n'
     home = pathlib.Path(__file__).resolve().parent.parent / 'crates' / 'run_layout'
-    made = {home / 'stdin': sent, home / 'stdout': said.encode()}
-    if '--check' in sys.argv[1:]:
-        stale = [str(file) for file, data in made.items() if not file.exists() or file.read_bytes() != data]
-        print('stale: ' + ', '.join(stale) if stale else 'as made')
-        sys.exit(1 if stale else 0)
-    for file, data in made.items():
-        file.write_bytes(data)
-    print(f'{said.count(chr(10))} lines, {len(sent)} bytes of input')
+    if '--write' in sys.argv[1:]:
+        (home / 'stdin').write_bytes(sent)
+        (home / 'stdout').write_text(said)
+        return
+    if (home / 'stdin').read_bytes() != sent:
+        sys.exit('run_layout/stdin is stale: run with --write')
+    print(said, end='')
 
 
 if __name__ == '__main__':
