@@ -1,0 +1,12 @@
+pub mod Cutting
+pub mod Unique
+pub mod Division
+pub mod Bodies
+pub mod Steps
+pub mod Filing
+pub mod Walk
+pub mod Sentences
+pub mod Shapes
+pub mod RefusalsOfUnits
+pub mod RefusalsOfBytes
+pub mod Refusals
