@@ -1,0 +1,4 @@
+pub mod Laws
+pub mod Units
+pub mod Passes
+pub mod Demand

@@ -1,0 +1,4 @@
+-- What filing answers and leaves in the lent words.
+pub mod Units
+pub mod Filing
+pub mod Inside
