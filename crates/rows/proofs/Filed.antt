@@ -1,0 +1,122 @@
+-- The rows that filing writes: the row at an index, and its body in the stream.
+use Prim.Native.Nat.{ℕ, suc, _+_, _≤_}
+use mathlib.Core.Path.{_≡_, refl, sym, ap, _∙_}
+use mathlib.Core.List.{List, [], _∷_, _++_, map, append-assoc}
+use mathlib.Core.Bool.{Bool, true, false, cond}
+use mathlib.Core.Option.{none, some}
+use native.Mathlib.Omega.{arith}
+use borrow.Author.Tests.{le-leb}
+use lib.Dec.{eqb}
+use lib.ListN.{length, take, drop, length-append}
+use lib.Seq.{take-append-le, drop-append-add}
+use Rattle.grammar.specs.Lists.{concatMap}
+use Rattle.grammar.specs.Grammar.{bytes, Reading, Reads}
+use Rattle.grammar.specs.Rows.{Row, Placed, placedUnits, kept, trimmed, isWhole, rowLength, rowsFrom, rows, words}
+use Rattle.grammar.proofs.Filing.{units-of-placed}
+use Rattle.rows.specs.Rows.{heldRow, inStream, ifInStream, existing, isRow, rowExists, partOf, rowBody}
+
+pub filed-row : (before : List Row) (r : Row) (after : List Row) (rest : List ℕ) → heldRow (words (before ++ r ∷ after) ++ rest) (length before) ≡ some r
+unfolding heldRow
+filed-row [] r after rest = refl
+filed-row (b ∷ before) r after rest = filed-row before r after rest
+
+-- ── the rows of units ──
+
+abbrev bytesOf : List Placed → List ℕ
+bytesOf ps = concatMap (λ (p : Placed). bytes (p .unit)) ps
+
+abbrev rowFor : ℕ → Placed → Row
+rowFor at p = record { code = p .unit .code; offset = at; length = rowLength p }
+
+rows-length : (at : ℕ) (ps : List Placed) → length (rowsFrom at ps) ≡ length ps
+rows-length at [] = refl
+rows-length at (p ∷ ps) = ap suc (rows-length (at + length (bytes (p .unit))) ps)
+
+-- a unit's offset is the number of bytes in the units before it
+rows-split : (at : ℕ) (before : List Placed) (p : Placed) (after : List Placed) (o : ℕ) → o ≡ at + length (bytesOf before)
+    → (rs : List Row) × (rowsFrom at (before ++ p ∷ after) ≡ rowsFrom at before ++ rowFor o p ∷ rs)
+rows-split at [] p after o e =
+    let f : at ≡ o = omega arith in
+    let rs = rowsFrom (at + length (bytes (p .unit))) after in
+    (rs, ap (λ (x : ℕ). rowFor x p ∷ rs) f)
+rows-split at (b ∷ before) p after o e =
+    let l = length-append (bytes (b .unit)) (bytesOf before) in
+    let r = rows-split (at + length (bytes (b .unit))) before p after o (omega arith) in
+    (r .0, ap (λ (rs : List Row). rowFor at b ∷ rs) (r .1))
+
+bytes-split : (before : List Placed) (p : Placed) (after : List Placed) → bytesOf (before ++ p ∷ after) ≡ bytesOf before ++ (bytes (p .unit) ++ bytesOf after)
+bytes-split [] p after = refl
+bytes-split (b ∷ before) p after = ap (λ (l : List ℕ). bytes (b .unit) ++ l) (bytes-split before p after) ∙ simp append-assoc
+
+-- ── the length is at most the body's ──
+
+kept-length : (x : ℕ) (l : List ℕ) → length (kept x l) ≤ length l + 1
+kept-length x [] = go (eqb x 0)
+  where
+    go : (t : Bool) → length (cond t [] (x ∷ [])) ≤ 1
+    go true = omega arith
+    go false = omega arith
+kept-length x (y ∷ ys) = omega arith
+
+trimmed-length : (l : List ℕ) → length (trimmed l) ≤ length l
+trimmed-length [] = omega arith
+trimmed-length (x ∷ xs) = let r = trimmed-length xs in omega (arith, kept-length x (trimmed xs))
+
+row-length : (p : Placed) → rowLength p ≤ length (p .unit .body)
+unfolding rowLength
+row-length p = go (isWhole p)
+  where
+    go : (t : Bool) → length (cond t (p .unit .body) (trimmed (p .unit .body))) ≤ length (p .unit .body)
+    go true = omega arith
+    go false = trimmed-length (p .unit .body)
+
+-- ── the body of a unit's row ──
+
+held-unit : (before : List Placed) (p : Placed) (after : List Placed) (rest : List ℕ)
+    → heldRow (words (rowsFrom 0 (before ++ p ∷ after)) ++ rest) (length before) ≡ some (rowFor (length (bytesOf before)) p)
+held-unit before p after rest =
+    let r = rows-split 0 before p after (length (bytesOf before)) (omega arith) in
+    ap (λ (rs : List Row). heldRow (words rs ++ rest) (length before)) (r .1)
+    ∙ ap (heldRow (words (rowsFrom 0 before ++ rowFor (length (bytesOf before)) p ∷ r .0) ++ rest)) (sym (rows-length 0 before))
+    ∙ filed-row (rowsFrom 0 before) (rowFor (length (bytesOf before)) p) (r .0) rest
+
+row-inside : (b : List ℕ) (p : Placed) (a : List ℕ) → inStream (b ++ (bytes (p .unit) ++ a)) (rowFor (length b) p) ≡ true
+unfolding inStream
+row-inside b p a =
+    let l = row-length p in
+    le-leb (length b + 4 + rowLength p) (length (b ++ (bytes (p .unit) ++ a))) (omega (arith, length-append b (bytes (p .unit) ++ a), length-append (p .unit .body) a))
+
+body-inside : (b : List ℕ) (p : Placed) (a : List ℕ) → take (rowLength p) (drop (length b + 4) (b ++ (bytes (p .unit) ++ a))) ≡ take (rowLength p) (p .unit .body)
+body-inside b p a =
+    ap (take (rowLength p)) (drop-append-add b (bytes (p .unit) ++ a) 4)
+    ∙ take-append-le (rowLength p) (p .unit .body) a (row-length p)
+
+existing-unit : (before : List Placed) (p : Placed) (after : List Placed) (rest : List ℕ)
+    → existing (bytesOf (before ++ p ∷ after)) (words (rowsFrom 0 (before ++ p ∷ after)) ++ rest) (length before) ≡ some (rowFor (length (bytesOf before)) p)
+unfolding existing
+existing-unit before p after rest =
+    let r = rowFor (length (bytesOf before)) p in
+    let s = bytesOf (before ++ p ∷ after) in
+    ap (ifInStream s) (held-unit before p after rest)
+    ∙ ap (λ (t : Bool). cond t (some r) none) (ap (λ (l : List ℕ). inStream l r) (bytes-split before p after) ∙ row-inside (bytesOf before) p (bytesOf after))
+
+concat-units : (ps : List Placed) → concatMap bytes (map (λ (p : Placed). p .unit) ps) ≡ bytesOf ps
+concat-units [] = refl
+concat-units (p ∷ ps) = ap (λ (l : List ℕ). bytes (p .unit) ++ l) (concat-units ps)
+
+stream-of : (stream : List ℕ) (r : Reading) → Reads stream r → bytesOf (placedUnits r) ≡ stream
+stream-of stream r h = sym (concat-units (placedUnits r)) ∙ ap (concatMap bytes) (units-of-placed r) ∙ h .stream-is
+
+pub filed-body : (stream : List ℕ) (r : Reading) → Reads stream r → (before : List Placed) (p : Placed) (after : List Placed) → placedUnits r ≡ before ++ p ∷ after
+    → (rest : List ℕ) → (rowExists stream (words (rows r) ++ rest) (length before) ≡ true) × (rowBody stream (words (rows r) ++ rest) (length before) ≡ take (rowLength p) (p .unit .body))
+filed-body stream r h before p after e rest =
+    let s : stream ≡ bytesOf (before ++ p ∷ after) = sym (stream-of stream r h) ∙ ap bytesOf e in
+    let x : existing stream (words (rows r) ++ rest) (length before) ≡ some (rowFor (length (bytesOf before)) p) =
+    ap (λ (l : List ℕ). existing l (words (rows r) ++ rest) (length before)) s
+    ∙ ap (λ (ps : List Placed). existing (bytesOf (before ++ p ∷ after)) (words (rowsFrom 0 ps) ++ rest) (length before)) e
+    ∙ existing-unit before p after rest in (
+      ap isRow x,
+      ap (partOf stream) x
+          ∙ ap (λ (l : List ℕ). take (rowLength p) (drop (length (bytesOf before) + 4) l)) (s ∙ bytes-split before p after)
+          ∙ body-inside (bytesOf before) p (bytesOf after),
+    )

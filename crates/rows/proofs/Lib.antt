@@ -1,0 +1,3 @@
+pub mod Laws
+pub mod Filed
+pub mod Main

@@ -1,0 +1,2 @@
+-- Document 01, "Rows": whether a row exists, and its body.
+pub mod Rows
