@@ -18,11 +18,9 @@ use Rattle.bits.proofs.Lists.{by-test}
 use Rattle.layout.specs.Answers.{recordOf, numberOf, headerResult, byNumber, notCopyright, extensionResult, isDisplay, isTwo, isOne, readBit, displayShort, displayOf, plainOf, colouredOf, copyrightOf}
 use Rattle.layout.specs.Answers as answers
 use Rattle.layout.specs.Layouts.{fields, leastBytes}
-use Rattle.layout.specs.Obeys.{Fits, AllAllowed, Crossed, written, Obeys}
+use Rattle.layout.specs.Obeys.{Fits, AllAllowed, written, Obeys}
 use Rattle.layout.specs.Reading.{Result, good, bad, _>>=_, _>>_, refuseIf, readValue, recorded, reading, short}
 use Rattle.layout.specs.Records.{headerRecord, plainRecord, colouredRecord, copyrightRecord}
-use Rattle.layout.specs.declared.CopyrightExtension.{CopyrightExtension}
-use Rattle.layout.specs.declared.DisplayExtension.{DisplayExtension}
 use Rattle.layout.specs.declared.Layout.{Layout}
 use Rattle.layout.specs.declared.Fault.the-variants as fault
 use Rattle.layout.specs.declared.Layout.the-variants.{Header, Display, Coloured, Copyright}
@@ -32,6 +30,8 @@ use Rattle.layout.specs.declared.SequenceHeader.{SequenceHeader}
 use Rattle.layout.proofs.AnswerLaws.{short-by}
 use Rattle.layout.proofs.AnswerLaws as laws
 use Rattle.layout.proofs.LayoutLaws.{fits-length, spell, spelled}
+use Rattle.layout.proofs.BreakAnswers.{copyright-made, number-there}
+use Rattle.layout.proofs.ExtensionLaws.{plain-made, coloured-made}
 use Rattle.layout.proofs.ObeyLaws.{bind-good, then-good, obeys-if, if-obeys}
 use Rattle.grammar.specs.Grammar.{Extension, IsHeader, IsCopyright, IsDisplay}
 
@@ -67,11 +67,6 @@ header-good body header = record-good Header headerRecord body header
 
 -- ── numbers ──
 
-number-there : (body : List ℕ) → body ≢ [] → (n : ℕ) × (numberOf body ≡ Value n)
-unfolding readAt readOn bitsOf bitsIn
-number-there [] n = absurd (n refl)
-number-there (byte ∷ body) n = (_, refl)
-
 number-none : (n : ℕ) → numberOf [] ≡ Value n → ⊥
 unfolding readAt readOn bitsOf
 number-none n e = let z : _≡_ {A = ℕ} 0 1 = cc in omega arith
@@ -88,22 +83,18 @@ two-is body n e = ap isTwo e
 
 -- an extension of one layout is read exactly where the body obeys, if values that fit make a record
 module _ {A : Type 0} (layout : Layout) (make : List ℕ → Option A) (wrap : A → answers.Extension) (body : List ℕ)
-    (made : (vs : List ℕ) → Obeys layout body vs → (a : A) × (make vs ≡ some a)) where
+    (made : (vs : List ℕ) → Fits (fields layout) vs → (a : A) × (make vs ≡ some a)) where
   layout-good : ((x : answers.Extension) × ((recordOf layout make body >>= (λ a. good (wrap a))) ≡ good x)) ↔ ((vs : List ℕ) × Obeys layout body vs)
   layout-good = (
     (λ h. let r = bind-good (recordOf layout make body) _ (h .0) (h .1) in let o = record-good layout make body (r .0) .0 (r .1) in (o .0, o .1)),
     λ h.
-        let m = made (h .0) (h .1) in
+        let m = made (h .0) (h .1 .fits) in
         (wrap (m .0), ap (λ r. r >>= (λ a. good (wrap a))) (record-good layout make body (m .0) .1 (h .0, h .1, m .1))),
   )
 
-copyright-made : (body vs : List ℕ) → Obeys Copyright body vs → (c : CopyrightExtension) × (copyrightRecord vs ≡ some c)
-unfolding Crossed
-copyright-made body vs h = let k = h .crossed in (k .0, k .1)
-
 copyright-good : (body : List ℕ) → ((x : answers.Extension) × (copyrightOf body ≡ good x)) ↔ IsCopyright body
 unfolding copyrightOf
-copyright-good body = layout-good Copyright copyrightRecord answers.copyright body (copyright-made body)
+copyright-good body = layout-good Copyright copyrightRecord answers.copyright body copyright-made
 
 -- an extension that is no display extension where it stands
 module _ (body : List ℕ) (p : Place) (plain : (n : ℕ) → numberOf body ≡ Value n → notCopyright p body n ≡ good (answers.opaque n)) where
@@ -146,22 +137,13 @@ pub display-long : (body : List ℕ) (x : answers.Extension) → displayOf body 
 unfolding displayOf
 display-long body x e = by-test (displayShort body) (λ t. not-good fault.Short x (rw t at e)) (λ f. f)
 
--- the values of a display extension, by name
-plain-made : (body vs : List ℕ) → Obeys Display body vs → (d : DisplayExtension) × (plainRecord vs ≡ some d)
-unfolding plainRecord fields
-plain-made body vs h = (_, ap plainRecord (spelled 8 vs (fits-length (fields Display) vs (h .fits))))
-
-coloured-made : (body vs : List ℕ) → Obeys Coloured body vs → (d : DisplayExtension) × (colouredRecord vs ≡ some d)
-unfolding colouredRecord fields
-coloured-made body vs h = (_, ap colouredRecord (spelled 11 vs (fits-length (fields Coloured) vs (h .fits))))
-
 plain-good : (body : List ℕ) → ((x : answers.Extension) × (plainOf body ≡ good x)) ↔ ((vs : List ℕ) × Obeys Display body vs)
 unfolding plainOf
-plain-good body = layout-good Display plainRecord answers.display body (plain-made body)
+plain-good body = layout-good Display plainRecord answers.display body plain-made
 
 coloured-good : (body : List ℕ) → ((x : answers.Extension) × (colouredOf body ≡ good x)) ↔ ((vs : List ℕ) × Obeys Coloured body vs)
 unfolding colouredOf
-coloured-good body = layout-good Coloured colouredRecord answers.display body (coloured-made body)
+coloured-good body = layout-good Coloured colouredRecord answers.display body coloured-made
 
 plain-bit : (body vs : List ℕ) → Obeys Display body vs → bitAt (bitsOf body) 8 ≡ bit.Is 0
 unfolding fields written bitAt bitsIn AllAllowed

@@ -17,12 +17,16 @@ use Rattle.startcode.specs.declared.Kind.the-variants as kind
 use Rattle.startcode.proofs.Exactly.{isUnknown}
 use Rattle.layout.specs.Answers.{headerResult, extensionResult, isDisplay, displayShort, displayOf, numberOf}
 use Rattle.layout.specs.Reading.{Result, good, bad, allZero}
+use Rattle.layout.specs.Breaks.{Breaks as BreaksLayout, BreaksDisplay, BreaksExtension, Numbered}
+use Rattle.layout.specs.declared.Fault.{Fault}
+use Rattle.layout.specs.declared.Layout.the-variants.{Header}
 use Rattle.layout.specs.declared.Place.the-variants as place
 use Rattle.layout.specs.declared.SequenceHeader.{SequenceHeader}
+use Rattle.layout.proofs.BreakAnswers.{short-iff, long-iff, header-bad, display-bad, extension-bad}
 use Rattle.grammar.specs.Lists.{AtMostOne}
 use Rattle.grammar.specs.Grammar.{StreamUnit, Alone, Nonzero, DisplayUnit, sliceRule}
 use Rattle.grammar.specs.Reader.{Step, go, stop, by, choose, unknown, headerStep, headExtension, pictureExtension, pictureStep, sliceStep, endingStep, table, step}
-use Rattle.grammar.specs.Refusals.{BeginsSentence, IsPictureCode, InHead, AfterPicture, InGroup, Faulty, NoNonzero, NotEmpty, NotGreater, BadSlice, BadHeadExtension, short, twice, fields, other, BreaksBody, Breaks, unknown as unknown-code, out-of-place, in-place}
+use Rattle.grammar.specs.Refusals.{BeginsSentence, IsPictureCode, InHead, AfterPicture, InGroup, NoNonzero, NotEmpty, NotGreater, BadSlice, BadHeadExtension, short, twice, fields, other, BreaksBody, Breaks, unknown as unknown-code, out-of-place, in-place}
 use Rattle.grammar.specs.declared.SliceRule.{SliceRule}
 use Rattle.grammar.specs.declared.State.{State}
 use Rattle.grammar.specs.declared.State.the-variants.{Start, Head, Picture as InPicture, Slices, Ended, Closed}
@@ -44,9 +48,10 @@ contrary t e f = let z : _≡_ {A = ℕ} 0 1 = cc in absurd (omega arith)
 same-stop : (m n : ℕ) → (stop m ≡ stop n) ↔ (n ≡ m)
 same-stop m n = ((λ e. cc), λ e. cc)
 
-by-iff : {A : Type 0} (r : Result A) (next : A → State) (n : ℕ) → (by r next ≡ stop n) ↔ Faulty r n
-by-iff (good a) next n = (went, λ f. let e = f .1 in let z : _≡_ {A = ℕ} 0 1 = cc in absurd (omega arith))
-by-iff (bad fault) next n = ((λ e. (fault, refl, cc)), λ f. let e = f .1 in let m = f .2 in cc)
+-- a body that is refused by its result, where what the result refuses is stated
+by-iff : {A : Type 0} (r : Result A) (next : A → State) (Broken : Fault → Type 0) → ((fault : Fault) → (r ≡ bad fault) ↔ Broken fault) → (n : ℕ) → (by r next ≡ stop n) ↔ Numbered Broken n
+by-iff (good a) next Broken iff n = (went, λ b. let e = iff (b .0) .1 (b .1) in let z : _≡_ {A = ℕ} 0 1 = cc in absurd (omega arith))
+by-iff (bad fault) next Broken iff n = ((λ e. (fault, iff fault .0 refl, cc)), λ b. let e = iff (b .0) .1 (b .1) in let m = b .2 in cc)
 
 zero-nonzero : (body : List ℕ) → allZero body ≡ true → ¬ Nonzero body
 zero-nonzero body t n = contrary (allZero body) t (nonzero-false body n)
@@ -128,7 +133,7 @@ not-both h p = let e = last-same (h .1) (p .2) .0 in let c : h .0 .code ≡ p .0
     apart e c (inr p) = absurd (omega arith)
 
 picture-extension-iff : (us : List StreamUnit) (rule : SliceRule) → AfterPicture us → (u : StreamUnit) (n : ℕ) → (pictureExtension rule (u .body) ≡ stop n) ↔ BreaksBody kind.Extension us u n
-picture-extension-iff us rule a u n = let k = by-iff (extensionResult place.Picture (u .body)) (λ x. InPicture rule) n in
+picture-extension-iff us rule a u n = let k = by-iff (extensionResult place.Picture (u .body)) (λ x. InPicture rule) (BreaksExtension place.Picture (u .body)) (extension-bad place.Picture (u .body)) n in
     ((λ e. inr (a, k .0 e)), λ b. elim b [ inl h ↦ not-both (h .1) a | inr f ↦ k .1 (f .1) ])
 
 -- one more is at most one exactly where there was none
@@ -147,24 +152,30 @@ module _ (rule : SliceRule) (d : Bool) (extras : List StreamUnit) (shown : (d �
     λ f. r .1 (λ s. contrary d (shown .1 s) f),
   )
 
+  shown-iff : (by (displayOf (u .body)) (λ x. Head rule true) ≡ stop n) ↔ Numbered (BreaksDisplay (u .body)) n
+  shown-iff = by-iff (displayOf (u .body)) (λ x. Head rule true) (BreaksDisplay (u .body)) (display-bad (u .body)) n
+
+  other-iff : (by (extensionResult place.Head (u .body)) (λ x. Head rule d) ≡ stop n) ↔ Numbered (BreaksExtension place.Head (u .body)) n
+  other-iff = by-iff (extensionResult place.Head (u .body)) (λ x. Head rule d) (BreaksExtension place.Head (u .body)) (extension-bad place.Head (u .body)) n
+
   head-stops : headExtension rule d (u .body) ≡ stop n → BadHeadExtension extras u n
   head-stops e =
       by-test (isDisplay (u .body))
       (λ t.
       let two = number-two (u .body) .0 t in
       by-test (displayShort (u .body))
-      (λ s. short two s (same-stop SHORT n .0 (rw (t, s) at e)))
+      (λ s. short two (short-iff (u .body) .0 s) (same-stop SHORT n .0 (rw (t, s) at e)))
       (λ l.
       by-test d
-      (λ g. twice two l (λ o. contrary d g (first two .0 o)) (same-stop TWICE n .0 (rw (t, l, g) at e)))
-      (λ f. fields two l (first two .1 f) (by-iff (displayOf (u .body)) (λ x. Head rule true) n .0 (rw (t, l, f) at e)))))
-      (λ f. other (number-not-two (u .body) .0 f) (by-iff (extensionResult place.Head (u .body)) (λ x. Head rule d) n .0 (rw f at e)))
+      (λ g. twice two (long-iff (u .body) .0 l) (λ o. contrary d g (first two .0 o)) (same-stop TWICE n .0 (rw (t, l, g) at e)))
+      (λ f. fields two (long-iff (u .body) .0 l) (first two .1 f) (shown-iff .0 (rw (t, l, f) at e)))))
+      (λ f. other (number-not-two (u .body) .0 f) (other-iff .0 (rw f at e)))
 
   stops-head : BadHeadExtension extras u n → headExtension rule d (u .body) ≡ stop n
-  stops-head (short two s e) = rw (number-two (u .body) .1 two, s) (same-stop SHORT n .1 e)
-  stops-head (twice two l o e) = by-test d (λ t. rw (number-two (u .body) .1 two, l, t) (same-stop TWICE n .1 e)) (λ f. absurd (o (first two .1 f)))
-  stops-head (fields two l o k) = rw (number-two (u .body) .1 two, l, first two .0 o) (by-iff (displayOf (u .body)) (λ x. Head rule true) n .1 k)
-  stops-head (other two k) = rw (number-not-two (u .body) .1 two) (by-iff (extensionResult place.Head (u .body)) (λ x. Head rule d) n .1 k)
+  stops-head (short two s e) = rw (number-two (u .body) .1 two, short-iff (u .body) .1 s) (same-stop SHORT n .1 e)
+  stops-head (twice two l o e) = by-test d (λ t. rw (number-two (u .body) .1 two, long-iff (u .body) .1 l, t) (same-stop TWICE n .1 e)) (λ f. absurd (o (first two .1 f)))
+  stops-head (fields two l o k) = rw (number-two (u .body) .1 two, long-iff (u .body) .1 l, first two .0 o) (shown-iff .1 k)
+  stops-head (other two k) = rw (number-not-two (u .body) .1 two) (other-iff .1 k)
 
 head-extension-iff : (us : List StreamUnit) (rule : SliceRule) (d : Bool) → HeadSays us d → (u : StreamUnit) → u .code ≡ 0xB5 → (n : ℕ) → (headExtension rule d (u .body) ≡ stop n) ↔ BreaksBody kind.Extension us u n
 head-extension-iff us rule d h u c n = (
@@ -187,7 +198,7 @@ module _ (us : List StreamUnit) (u : StreamUnit) where
 
   header-entry : Entry us u (eqb (u .code) 0xB0, headerStep (u .body))
   unfolding kindOf
-  header-entry = entry 0xB0 kind.SequenceHeader refl (headerStep (u .body)) (λ c. by-iff (headerResult (u .body)) (λ header. Head (sliceRule header) false))
+  header-entry = entry 0xB0 kind.SequenceHeader refl (headerStep (u .body)) (λ c. by-iff (headerResult (u .body)) (λ header. Head (sliceRule header) false) (BreaksLayout Header (u .body)) (header-bad (u .body)))
 
   user-entry : (q : State) → Entry us u (eqb (u .code) 0xB2, go q)
   unfolding kindOf

@@ -4,7 +4,7 @@ use Prim.Native.Nat.{ℕ, _*_, _≤_, _<_}
 use mathlib.Core.Path.{_≡_}
 use mathlib.Core.Logic.{_≢_, _⊎_}
 use mathlib.Core.List.{List, [], _∷_, _++_, map}
-use mathlib.Core.Bool.{true, false}
+use mathlib.Core.Bool.{true}
 use lib.ListN.{length}
 use Rattle.bits.specs.Answers.{Outcome, done, refused, NO-CODE, CUT, OVERLAP, UNKNOWN, OUT-OF-PLACE, SHORT, VALUE, STUFFING, TWICE, UNENDED, FULL, TOO-LONG}
 use Rattle.bits.specs.Lists.{All}
@@ -12,10 +12,10 @@ use Rattle.bits.specs.declared.Read.the-variants.{Value}
 use Rattle.startcode.specs.Kinds.{kindOf}
 use Rattle.startcode.specs.declared.Kind.{Kind}
 use Rattle.startcode.specs.declared.Kind.the-variants as kind
-use Rattle.layout.specs.Answers.{headerResult, extensionResult, displayShort, displayOf, numberOf, faultNumber}
-use Rattle.layout.specs.Reading.{Result, bad}
+use Rattle.layout.specs.Answers.{numberOf}
+use Rattle.layout.specs.Breaks.{Breaks as BreaksLayout, ShortDisplay, BreaksDisplay, BreaksExtension, Numbered}
 use Rattle.layout.specs.Records.{macroblockRows, slicesTested}
-use Rattle.layout.specs.declared.Fault.{Fault}
+use Rattle.layout.specs.declared.Layout.the-variants.{Header}
 use Rattle.layout.specs.declared.Place.the-variants as place
 use Rattle.layout.specs.declared.SequenceHeader.{SequenceHeader}
 use Rattle.grammar.specs.Lists.{AtMostOne, concatMap}
@@ -81,10 +81,6 @@ pub record InGroup (us : List StreamUnit) (header : SequenceHeader) : Type 0 whe
 
 -- ── the rules of a body, by its unit's kind ──
 
--- the body breaks its layout, and the first clause that it breaks has the number n
-abbrev pub Faulty : {A : Type 0} → Result A → ℕ → Type 0
-Faulty result n = (fault : Fault) × (result ≡ bad fault) × (n ≡ faultNumber fault)
-
 -- "Picture and slice bodies hold at least one nonzero byte, otherwise SHORT."
 abbrev pub NoNonzero : List ℕ → ℕ → Type 0
 NoNonzero body n = (¬ Nonzero body) × (n ≡ SHORT)
@@ -109,21 +105,21 @@ pub record BadSlice (us : List StreamUnit) (u : StreamUnit) (n : ℕ) : Type 0 w
 -- an extension of a group's head, after `extras`: of a display extension SHORT, then TWICE, "a group's head has at most one display
 -- extension", then its fields and its end
 pub data BadHeadExtension (extras : List StreamUnit) (u : StreamUnit) (n : ℕ) : Type 0 where
-  short : numberOf (u .body) ≡ Value 2 → displayShort (u .body) ≡ true → n ≡ SHORT → BadHeadExtension extras u n
-  twice : numberOf (u .body) ≡ Value 2 → displayShort (u .body) ≡ false → ¬ AtMostOne DisplayUnit (extras ++ u ∷ []) → n ≡ TWICE → BadHeadExtension extras u n
-  fields : numberOf (u .body) ≡ Value 2 → displayShort (u .body) ≡ false → AtMostOne DisplayUnit (extras ++ u ∷ []) → Faulty (displayOf (u .body)) n → BadHeadExtension extras u n
-  other : numberOf (u .body) ≢ Value 2 → Faulty (extensionResult place.Head (u .body)) n → BadHeadExtension extras u n
+  short : numberOf (u .body) ≡ Value 2 → ShortDisplay (u .body) → n ≡ SHORT → BadHeadExtension extras u n
+  twice : numberOf (u .body) ≡ Value 2 → ¬ ShortDisplay (u .body) → ¬ AtMostOne DisplayUnit (extras ++ u ∷ []) → n ≡ TWICE → BadHeadExtension extras u n
+  fields : numberOf (u .body) ≡ Value 2 → ¬ ShortDisplay (u .body) → AtMostOne DisplayUnit (extras ++ u ∷ []) → Numbered (BreaksDisplay (u .body)) n → BadHeadExtension extras u n
+  other : numberOf (u .body) ≢ Value 2 → Numbered (BreaksExtension place.Head (u .body)) n → BadHeadExtension extras u n
 
 -- after the units us, a unit of this kind that is in place breaks a rule of its body, and n is the number of the first
 abbrev pub BreaksBody : Kind → List StreamUnit → StreamUnit → ℕ → Type 0
 BreaksBody kind.Slice us u n = NoNonzero (u .body) n ⊎ BadSlice us u n
-BreaksBody kind.SequenceHeader us u n = Faulty (headerResult (u .body)) n
+BreaksBody kind.SequenceHeader us u n = Numbered (BreaksLayout Header (u .body)) n
 BreaksBody kind.SequenceEnd us u n = NotEmpty (u .body) n
 BreaksBody kind.UserData us u n = ⊥
 BreaksBody kind.IPicture us u n = NoNonzero (u .body) n
 BreaksBody kind.Extension us u n =
     ((extras : List StreamUnit) × InHead us extras × BadHeadExtension extras u n)
-    ⊎ (AfterPicture us × Faulty (extensionResult place.Picture (u .body)) n)
+    ⊎ (AfterPicture us × Numbered (BreaksExtension place.Picture (u .body)) n)
 BreaksBody kind.PBPicture us u n = NoNonzero (u .body) n
 BreaksBody kind.EditCode us u n = NotEmpty (u .body) n
 

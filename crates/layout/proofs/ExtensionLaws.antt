@@ -20,7 +20,7 @@ use Rattle.bits.proofs.Laws.{length-bits, read-fits, bit-here, bit-missing}
 use Rattle.layout.specs.Layouts.{widthOf, ruleOf, Allowed, marker, fields, bitCount, leastBytes}
 use Rattle.layout.specs.Records.{headerRecord, plainRecord, colouredRecord, copyrightRecord}
 use Rattle.layout.specs.Obeys.{AllAllowed, Fits, Obeys, HeaderBody, DisplayBody, plain, coloured, CopyrightBody}
-use Rattle.layout.specs.Breaks.{Holds, Breaks}
+use Rattle.layout.specs.Breaks.{Holds}
 use Rattle.layout.specs.Reading.{Result, good, bad, _>>=_, refuseIf, readValue, recorded, valuesOf, reading}
 use Rattle.layout.specs.Answers.{faultNumber, answerOf, recordOf, headerOf, Extension, display, copyright, opaque, plainOf, colouredOf, copyrightOf, isOne, readBit, displayShort, displayOf, numberOf, isTwo, isDisplay, notCopyright, byNumber, extensionResult, extensionOf}
 use Rattle.layout.specs.declared.Field.{Field}
@@ -35,7 +35,7 @@ use Rattle.layout.specs.declared.DisplayExtension.{DisplayExtension}
 use Rattle.layout.specs.declared.CopyrightExtension.{CopyrightExtension}
 use Rattle.layout.proofs.LayoutLaws.{each-at, fits-length, spelled}
 use Rattle.layout.proofs.ObeyLaws.{bind-good, then-good, good-same, value-good, obeys-if, if-obeys}
-use Rattle.layout.proofs.BreakLaws.{held-read, breaks-if, if-breaks, short-if}
+use Rattle.layout.proofs.BreakLaws.{held-read, short-if}
 use Rattle.layout.proofs.AnswerLaws.{short-by, display-short, display-long}
 
 -- ── answers and results ──
@@ -277,7 +277,7 @@ pub display-result : (body : List ℕ) → isDisplay body ≡ true → extension
 unfolding isDisplay byNumber
 display-result body e = by-number Head body 2 (number-two (numberOf body) e)
 
-wrapped-bad : {A : Type 0} (r : Result A) (wrap : A → Extension) (why : Fault) → (r >>= (λ a. good (wrap a))) ≡ bad why → r ≡ bad why
+pub wrapped-bad : {A : Type 0} (r : Result A) (wrap : A → Extension) (why : Fault) → (r >>= (λ a. good (wrap a))) ≡ bad why → r ≡ bad why
 wrapped-bad (good a) wrap why e = let z : _≡_ {A = ℕ} 0 1 = cc in absurd (omega arith)
 wrapped-bad (bad f) wrap why e = let s : f ≡ why = cc in ap bad s
 
@@ -366,17 +366,6 @@ header-if body h e =
 pub if-header : (body : List ℕ) (h : SequenceHeader) → HeaderBody body h → headerOf body ≡ done h
 unfolding headerOf answerOf
 if-header body h i = ap answerOf (if-record Header headerRecord body h (i .values) (i .obeys) (i .recorded))
-
-pub header-refused : (body : List ℕ) (n : ℕ) → headerOf body ≡ refused n [] → (why : Fault) × (faultNumber why ≡ n) × Breaks Header body why
-unfolding headerOf
-header-refused body n e =
-    let r = answer-refused (recordOf Header headerRecord body) n e in
-    (r .0, r .1, breaks-if Header body (r .0) (record-bad Header headerRecord body (r .0) header-made (r .2)))
-
-pub refused-header : (body : List ℕ) (n : ℕ) → (why : Fault) × (faultNumber why ≡ n) × Breaks Header body why → headerOf body ≡ refused n []
-unfolding headerOf answerOf
-refused-header body n h =
-    ap answerOf (bad-record Header headerRecord body (h .0) (if-breaks Header body (h .0) (h .2))) ∙ ap (λ (k : ℕ). refused k []) (h .1)
 
 -- an answer has one reason
 display-reason : (place : Place) (body : List ℕ) (d : DisplayExtension) → Answers place body (display d) → (place ≡ Head) × DisplayBody body d

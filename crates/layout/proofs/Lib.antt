@@ -8,6 +8,7 @@ pub mod ObeyLaws
 pub mod BreakLaws
 pub mod AnswerLaws
 pub mod ExtensionLaws
+pub mod BreakAnswers
 pub mod SaysLaws
 pub mod RatioLaws
 pub mod Main

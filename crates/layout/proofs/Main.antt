@@ -11,9 +11,9 @@ use Rattle.bits.specs.declared.Bit.the-variants.{Is}
 use Rattle.bits.specs.declared.Read.the-variants.{Value}
 use Rattle.layout.specs.Layouts.{leastBytes}
 use Rattle.layout.specs.Obeys.{Obeys, HeaderBody, DisplayBody, CopyrightBody}
-use Rattle.layout.specs.Breaks.{Holds, Breaks}
+use Rattle.layout.specs.Breaks.{Holds, Breaks, Numbered, BreaksExtension}
 use Rattle.layout.specs.Reading.{good, bad, reading}
-use Rattle.layout.specs.Answers.{faultNumber, headerSays, headerOf, display, copyright, opaque, extensionSays, numberOf, isDisplay, displayShort, extensionOf}
+use Rattle.layout.specs.Answers.{headerResult, headerSays, headerOf, display, copyright, opaque, extensionSays, numberOf, isDisplay, displayShort, extensionResult, extensionOf}
 use Rattle.layout.specs.declared.Layout.{Layout}
 use Rattle.layout.specs.declared.Layout.the-variants.{Header, Display, Coloured, Copyright}
 use Rattle.layout.specs.declared.Fault.{Fault}
@@ -28,6 +28,7 @@ use Rattle.layout.specs.declared.Place.the-variants.{Head}
 use Rattle.layout.proofs.JudgeLaws.{reading-short}
 use Rattle.layout.proofs.ObeyLaws.{good-same, obeys-if, if-obeys}
 use Rattle.layout.proofs.BreakLaws.{breaks-if, if-breaks, short-if}
+use Rattle.layout.proofs.BreakAnswers as breaks
 use Rattle.layout.proofs.ExtensionLaws as laws
 use Rattle.layout.proofs.SaysLaws as says
 
@@ -56,8 +57,9 @@ pub header-iff : (body : List ℕ) (h : SequenceHeader) → (headerOf body ≡ d
 header-iff body h = (laws.header-if body h, laws.if-header body h)
 
 -- A refusal has the number of what breaks the layout.
-pub header-refused-iff : (body : List ℕ) (number : ℕ) → (headerOf body ≡ refused number []) ↔ ((why : Fault) × (faultNumber why ≡ number) × Breaks Header body why)
-header-refused-iff body number = (laws.header-refused body number, laws.refused-header body number)
+pub header-refused-iff : (body : List ℕ) (number : ℕ) → (headerOf body ≡ refused number []) ↔ Numbered (Breaks Header body) number
+unfolding headerOf
+header-refused-iff body = breaks.answer-refused (headerResult body) (Breaks Header body) (breaks.header-bad body)
 
 -- ── extensions ──
 
@@ -72,6 +74,11 @@ copyright-iff place body c = (laws.answers-copyright place body c, laws.copyrigh
 -- Any other number, and number 2 after a picture header, is answered alone.
 pub opaque-iff : (place : Place) (body : List ℕ) (n : ℕ) → (extensionOf place body ≡ done (opaque n)) ↔ ((numberOf body ≡ Value n) × (n ≢ 4) × (place ≡ Head → n ≢ 2))
 opaque-iff place body n = (laws.answers-opaque place body n, laws.opaque-answers place body n)
+
+-- An extension is refused where it stands for what breaks it, SHORT of a display extension first.
+pub extension-refused-iff : (place : Place) (body : List ℕ) (number : ℕ) → (extensionOf place body ≡ refused number []) ↔ Numbered (BreaksExtension place body) number
+unfolding extensionOf
+extension-refused-iff place body = breaks.answer-refused (extensionResult place body) (BreaksExtension place body) (breaks.extension-bad place body)
 
 -- SHORT of a display extension is its own test, so another test can stand between it and the fields.
 pub display-short-iff : (body : List ℕ) → isDisplay body ≡ true → (extensionOf Head body ≡ refused SHORT []) ↔ (displayShort body ≡ true)
