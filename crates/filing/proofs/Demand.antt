@@ -23,6 +23,8 @@ use Rattle.grammar.specs.declared.State.{State}
 use Rattle.grammar.specs.declared.State.the-variants.{Start, Head, Picture as InPicture, Slices, Ended, Closed}
 use Rattle.grammar.specs.Reader.{Step, go, stop, guard, choose, by, headExtension, pictureStep, sliceStep, endingStep, table, unknown, step, final, isNil, cut, addRow, continue, rowAt, fileFrom, filingOfAny, filing, filingInto, within, longestStream}
 use Rattle.grammar.proofs.Filing.{filed-iff, not-done, unitOf, units-of-placed}
+use Rattle.grammar.specs.Refusals.{RefusesInto}
+use Rattle.grammar.proofs.Refusals.{into-iff}
 use Rattle.grammar.proofs.Unique.{same-reading}
 use Rattle.filing.specs.Units.{reasonNumber}
 use Rattle.filing.specs.Filing.{totals, filed, wordsAfter, filingSays, ReadingOf, FiledByReading}
@@ -290,6 +292,15 @@ module _ (s lent after : List ℕ) (r : FilingAnswer) (said : filingSays r ≡ f
 
   pub demand : FiledByReading s lent after r
   demand = record { filed = λ n. (of-filed n, to-filed n); full = (of-full, to-full); rows = of-rows; kept = of-kept; one = same-reading s }
+
+-- ── refusals ──
+
+pub refused-by : (s : List ℕ) (lent : ℕ) (r : FilingAnswer) → filingSays r ≡ filed s lent → (why : Refusal) → (r ≡ answer.Refused why) ↔ RefusesInto s lent (reasonNumber (why .reason)) (why .place)
+unfolding filed
+refused-by s lent r said why = (
+  (λ e. into-iff s lent _ _ .0 (refused-is (filingInto s lent) _ _ (sym said ∙ ap filingSays e))),
+  λ h. filing-says-one r (answer.Refused why) (said ∙ ap (mapDone totals) (into-iff s lent _ _ .1 h)),
+)
 
 -- an answer with its words, and what they say of readings
 pub settled : (s lent after : List ℕ) (r : FilingAnswer) (o : Outcome (List Row)) → filingInto s (length lent) ≡ o → filingSays r ≡ mapDone totals o → after ≡ wordsAfter o lent →

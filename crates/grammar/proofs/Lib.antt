@@ -10,3 +10,4 @@ pub mod Shapes
 pub mod RefusalsOfUnits
 pub mod RefusalsOfBytes
 pub mod Refusals
+pub mod Main
