@@ -322,7 +322,7 @@ fn place_in(state: State, code: u8) -> Place
 fn row_length(place: Place, code: u8, body: &[u8]) -> usize
     ensures { λ r. ⌜ r ≡ rowLength (placed place (record { code = code; body = now (body .entry) })) ⌝ }
 {
-    if code == USER_DATA {
+    if code == USER_DATA { // may end in zero bytes
         return body.len();
     }
     if code == EXTENSION {
