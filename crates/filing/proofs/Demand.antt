@@ -42,7 +42,11 @@ module _ (s : List ℕ) (lent : ℕ) where
   unfolding filingInto filing
   into-long h = rw (lt-ltb longestStream (length s) h)
 
-  filing-short : length s ≤ longestStream → filing s ≡ filingOfAny s
+  pub filing-long : longestStream < length s → filing s ≡ refused TOO-LONG (0 ∷ [])
+  unfolding filing
+  filing-long h = rw (lt-ltb longestStream (length s) h)
+
+  pub filing-short : length s ≤ longestStream → filing s ≡ filingOfAny s
   unfolding filing
   filing-short h = rw (le-ltb longestStream (length s) h)
 

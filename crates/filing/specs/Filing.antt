@@ -12,6 +12,8 @@ use Rattle.filing.specs.Units.{reasonNumber}
 use Rattle.filing.specs.declared.Reason.the-variants as reason
 use Rattle.filing.specs.declared.Refusal.{Refusal}
 use Rattle.filing.specs.declared.Totals.{Totals}
+use Rattle.filing.specs.declared.Checked.{Checked}
+use Rattle.filing.specs.declared.Checked.the-variants as checked
 use Rattle.filing.specs.declared.FilingAnswer.{FilingAnswer}
 use Rattle.filing.specs.declared.FilingAnswer.the-variants as answer
 
@@ -31,6 +33,11 @@ wordsAfter (refused number carried) lent = lent
 abbrev pub filingSays : FilingAnswer → Outcome Totals
 filingSays (answer.Filed t) = done t
 filingSays (answer.Refused r) = refused (reasonNumber (r .reason)) (r .place ∷ [])
+
+-- the numbers of the answers where no row is written
+abbrev pub checkedSays : Checked → Outcome ℕ
+checkedSays (checked.Good units) = done units
+checkedSays (checked.Refused r) = refused (reasonNumber (r .reason)) (r .place ∷ [])
 
 -- ── the same in the grammar's own words ──
 

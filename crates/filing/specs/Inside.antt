@@ -1,18 +1,11 @@
 -- What the private functions promise one another; no part of document 01.
 use Prim.Native.Nat.{ℕ, _*_, _≤_}
 use mathlib.Core.Path.{_≡_}
-use mathlib.Core.List.{List, [], _∷_}
+use mathlib.Core.List.{List}
 use lib.ListN.{length}
-use Rattle.bits.specs.Answers.{Outcome, done, refused}
+use Rattle.bits.specs.Answers.{done}
 use Rattle.grammar.specs.Rows.{Row}
 use Rattle.grammar.specs.Reader.{filingOfAny, longestStream}
-use Rattle.filing.specs.Units.{reasonNumber}
-use Rattle.filing.specs.declared.Checked.{Checked}
-use Rattle.filing.specs.declared.Checked.the-variants as checked
-
-abbrev pub checkedSays : Checked → Outcome ℕ
-checkedSays (checked.Good units) = done units
-checkedSays (checked.Refused r) = refused (reasonNumber (r .reason)) (r .place ∷ [])
 
 -- the stream is good and within the limit, and the words suffice
 pub record Writable (stream lent : List ℕ) : Type 0 where

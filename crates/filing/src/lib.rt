@@ -16,10 +16,10 @@ ghost use Rattle.layout.specs.Answers.{extensionResult};
 ghost use Rattle.layout.specs.Answers as layoutAnswers;
 ghost use Rattle.layout.specs.Reading.{allZero};
 ghost use Rattle.grammar.specs.Rows.{trimmed, placed, rowLength, words};
-ghost use Rattle.grammar.specs.Reader.{step, choose, table, by, headerStep, headExtension, pictureStep, sliceStep, endingStep, placeIn, final, filingOfAny, filingInto};
+ghost use Rattle.grammar.specs.Reader.{step, choose, table, by, headerStep, headExtension, pictureStep, sliceStep, endingStep, placeIn, final, filingOfAny, filing, filingInto};
 ghost use Rattle.filing.specs.Units.{reasonNumber, stepSays, unitAt, unitSays};
-ghost use Rattle.filing.specs.Filing.{filed, filingSays, wordsAfter, FiledByReading};
-ghost use Rattle.filing.specs.Inside.{checkedSays, Writable};
+ghost use Rattle.filing.specs.Filing.{filed, filingSays, checkedSays, wordsAfter, FiledByReading};
+ghost use Rattle.filing.specs.Inside.{Writable};
 
 const SEQUENCE_HEADER: u8 = 0xB0;
 
@@ -374,7 +374,7 @@ pub fn unit_at(stream: &[u8], state: State, at: usize) -> UnitAnswer
 // ── the first pass ──
 
 // The number of units, or the first refusal.
-enum Checked {
+pub enum Checked {
     Good(usize),
     Refused(Refusal),
 }
@@ -427,6 +427,19 @@ fn check_units(stream: &[u8]) -> Checked
         reason: Reason::Unended,
         place: at,
     })
+}
+
+// A stream is checked and no row is written: filing's answer, FULL aside.
+pub fn check(stream: &[u8]) -> Checked
+    ensures { λ r. ⌜ checkedSays r ≡ mapDone length (filing (now (stream .entry))) ⌝ }
+{
+    if 16777216 < stream.len() {
+        return Checked::Refused(Refusal {
+            reason: Reason::TooLong,
+            place: 0,
+        });
+    }
+    check_units(stream)
 }
 
 // ── the second pass ──

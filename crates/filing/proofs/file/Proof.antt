@@ -8,8 +8,7 @@ use lib.ListN.{length}
 use Rattle.bits.specs.Answers.{Outcome, done, refused, mapDone}
 use Rattle.grammar.specs.Rows.{Row}
 use Rattle.grammar.specs.Reader.{filingOfAny}
-use Rattle.filing.specs.Filing.{totals, wordsAfter}
-use Rattle.filing.specs.Inside.{checkedSays}
+use Rattle.filing.specs.Filing.{totals, wordsAfter, checkedSays}
 use Rattle.filing.specs.declared.Totals.{Totals}
 use Rattle.filing.proofs.Demand.{into-long, into-refused, into-full, into-done, count-done, count-refused, settled}
 use Rattle.filing.proofs.file.Statement.{statement}

@@ -1,0 +1,4 @@
+pub mod Walk
+pub mod Readings
+pub mod Exactly
+pub mod Main

@@ -1,0 +1,58 @@
+-- What group g of a reading is, in the grammar's own words.
+use Prim.Native.Nat.{ℕ, _≤_}
+use mathlib.Core.Path.{_≡_}
+use mathlib.Core.Logic.{_↔_}
+use mathlib.Core.List.{List, [], _∷_, _++_}
+use lib.ListN.{length}
+use Rattle.bits.specs.Answers.{done, refused, NO-ROW}
+use Rattle.bits.specs.Lists.{All}
+use Rattle.layout.specs.Obeys.{DisplayBody}
+use Rattle.layout.specs.declared.DisplayExtension.{DisplayExtension}
+use Rattle.grammar.specs.Grammar.{StreamUnit, Group, Reading, Reads, IsHeader, DisplayUnit}
+use Rattle.grammar.specs.Reader.{filing, longestStream}
+use Rattle.groups.specs.Groups.{GroupRecord, groupAt}
+use Rattle.groups.specs.declared.Display.{Display}
+use Rattle.groups.specs.declared.Display.the-variants as displayed
+
+-- one of these units is a display extension with this record
+pub record Shows (extras : List StreamUnit) (d : DisplayExtension) : Type 0 where
+  pub before : List StreamUnit
+  pub unit : StreamUnit
+  pub after : List StreamUnit
+  pub is : extras ≡ before ++ unit ∷ after
+  pub display : DisplayUnit unit
+  pub body : DisplayBody (unit .body) d
+
+-- given where a unit of the head is one, not given where none is
+abbrev pub DisplayIs : List StreamUnit → Display → Type 0
+DisplayIs extras (displayed.Given d) = Shows extras d
+DisplayIs extras displayed.NotGiven = All (λ u. ¬ DisplayUnit u) extras
+
+-- the header record and the display extension of a group
+pub record GroupIs (group : Group) (x : GroupRecord) : Type 0 where
+  pub header : IsHeader (group .head .body) (x .header)
+  pub display : DisplayIs (group .extras) (x .display)
+
+-- group g, counted from 0
+pub record Numbered (g : ℕ) (groups : List Group) (group : Group) : Type 0 where
+  pub before : List Group
+  pub after : List Group
+  pub is : groups ≡ before ++ group ∷ after
+  pub count : length before ≡ g
+
+-- what is answered for group g of a stream with this reading
+pub record GroupOfReading (stream : List ℕ) (r : Reading) (g : ℕ) : Type 0 where
+  -- a record exactly where the reading has group g and the record is its own
+  pub given : (x : GroupRecord) → (groupAt stream g ≡ done x) ↔ ((group : Group) × Numbered g (r .groups) group × GroupIs group x)
+  -- NO ROW exactly where g is at least the number of groups
+  pub no-row : (groupAt stream g ≡ refused NO-ROW []) ↔ (length (r .groups) ≤ g)
+
+-- what is answered for group g of any stream
+pub record GroupByReading (stream : List ℕ) (g : ℕ) : Type 0 where
+  -- a record exactly where the stream is within the limit and has a reading whose group g has it
+  pub given : (x : GroupRecord) →
+      (groupAt stream g ≡ done x) ↔ ((length stream ≤ longestStream) × ((r : Reading) × Reads stream r × ((group : Group) × Numbered g (r .groups) group × GroupIs group x)))
+  -- NO ROW exactly where it is within the limit and has a reading with no group g
+  pub no-row : (groupAt stream g ≡ refused NO-ROW []) ↔ ((length stream ≤ longestStream) × ((r : Reading) × Reads stream r × (length (r .groups) ≤ g)))
+  -- any other refusal exactly where it is filing's, with its place
+  pub refusal : (n place : ℕ) → (groupAt stream g ≡ refused n (place ∷ [])) ↔ (filing stream ≡ refused n (place ∷ []))
