@@ -37,11 +37,7 @@ use Rattle.filing.specs.declared.Totals.{Totals}
 
 -- ── the order of the tests ──
 
-module _ (s : List ℕ) (lent : ℕ) where
-  pub into-long : longestStream < length s → filingInto s lent ≡ refused TOO-LONG (0 ∷ [])
-  unfolding filingInto filing
-  into-long h = rw (lt-ltb longestStream (length s) h)
-
+module _ (s : List ℕ) where
   pub filing-long : longestStream < length s → filing s ≡ refused TOO-LONG (0 ∷ [])
   unfolding filing
   filing-long h = rw (lt-ltb longestStream (length s) h)
@@ -50,23 +46,22 @@ module _ (s : List ℕ) (lent : ℕ) where
   unfolding filing
   filing-short h = rw (le-ltb longestStream (length s) h)
 
-  pub into-refused : length s ≤ longestStream → (n : ℕ) (carried : List ℕ) → filingOfAny s ≡ refused n carried → filingInto s lent ≡ refused n carried
+  pub filing-done : (rs : List Row) → filing s ≡ done rs → (length s ≤ longestStream) × (filingOfAny s ≡ done rs)
+  unfolding filing
+  filing-done rs e = by-test (ltb longestStream (length s)) (λ t. not-done (rw t at e)) (λ f. (ltb-false longestStream (length s) f, rw f at e))
+
+module _ (s : List ℕ) (lent : ℕ) where
+  pub into-refused : (n : ℕ) (carried : List ℕ) → filing s ≡ refused n carried → filingInto s lent ≡ refused n carried
   unfolding filingInto
-  into-refused h n carried e = ap (within lent) (filing-short h ∙ e)
+  into-refused n carried e = ap (within lent) e
 
-  within-full : (rs : List Row) → filing s ≡ done rs → lent < 3 * length rs → filingInto s lent ≡ refused FULL (0 ∷ [])
+  pub into-full : (rs : List Row) → filing s ≡ done rs → lent < 3 * length rs → filingInto s lent ≡ refused FULL (0 ∷ [])
   unfolding filingInto
-  within-full rs e k = ap (within lent) e ∙ rw (lt-ltb lent (3 * length rs) k)
+  into-full rs e k = ap (within lent) e ∙ rw (lt-ltb lent (3 * length rs) k)
 
-  within-done : (rs : List Row) → filing s ≡ done rs → 3 * length rs ≤ lent → filingInto s lent ≡ done rs
+  pub into-done : (rs : List Row) → filing s ≡ done rs → 3 * length rs ≤ lent → filingInto s lent ≡ done rs
   unfolding filingInto
-  within-done rs e k = ap (within lent) e ∙ rw (le-ltb lent (3 * length rs) k)
-
-  pub into-full : length s ≤ longestStream → (rs : List Row) → filingOfAny s ≡ done rs → lent < 3 * length rs → filingInto s lent ≡ refused FULL (0 ∷ [])
-  into-full h rs e k = within-full rs (filing-short h ∙ e) k
-
-  pub into-done : length s ≤ longestStream → (rs : List Row) → filingOfAny s ≡ done rs → 3 * length rs ≤ lent → filingInto s lent ≡ done rs
-  into-done h rs e k = within-done rs (filing-short h ∙ e) k
+  into-done rs e k = ap (within lent) e ∙ rw (le-ltb lent (3 * length rs) k)
 
 -- what a count says of the rows
 pub count-done : (o : Outcome (List Row)) (n : ℕ) → done n ≡ mapDone length o → (rs : List Row) × (o ≡ done rs) × (length rs ≡ n)
@@ -263,7 +258,7 @@ module _ (s lent after : List ℕ) (r : FilingAnswer) (said : filingSays r ≡ f
   to-filed n h =
       let x = h .1 .0 in
       let c : length (rows x) ≡ n = units-rows x ∙ h .1 .2 in
-      let e = within-done s (length lent) (rows x) (read-filed x (h .0) (h .1 .1)) (omega (arith, h .2)) in
+      let e = into-done s (length lent) (rows x) (read-filed x (h .0) (h .1 .1)) (omega (arith, h .2)) in
       filing-says-one r (answer.Filed (record { units = n })) (said ∙ ap (mapDone totals) e ∙ ap (λ (m : ℕ). done (record { units = m })) c)
 
   of-full : r ≡ answer.Refused (record { reason = reason.Full; place = 0 }) → (length s ≤ longestStream) × ((n : ℕ) × ReadingOf s n × (length lent < 3 * n))
@@ -279,7 +274,7 @@ module _ (s lent after : List ℕ) (r : FilingAnswer) (said : filingSays r ≡ f
   to-full h =
       let x = h .1 .1 .0 in
       let c : length (rows x) ≡ h .1 .0 = units-rows x ∙ h .1 .1 .2 in
-      let e = within-full s (length lent) (rows x) (read-filed x (h .0) (h .1 .1 .1)) (omega (arith, h .1 .2)) in
+      let e = into-full s (length lent) (rows x) (read-filed x (h .0) (h .1 .1 .1)) (omega (arith, h .1 .2)) in
       filing-says-one r (answer.Refused (record { reason = reason.Full; place = 0 })) (said ∙ ap (mapDone totals) e)
 
   of-rows : (n : ℕ) → r ≡ answer.Filed (record { units = n }) → (x : Reading) → Reads s x → after ≡ words (rows x) ++ drop (3 * n) lent
@@ -287,7 +282,7 @@ module _ (s lent after : List ℕ) (r : FilingAnswer) (said : filingSays r ≡ f
       let k = of-filed n e in
       let same = same-reading s x (k .1 .0) h (k .1 .1) in
       let c : length (rows x) ≡ n = units-rows x ∙ ap (λ (y : Reading). length (units y)) same ∙ k .1 .2 in
-      let i = within-done s (length lent) (rows x) (read-filed x (k .0) h) (omega (arith, k .2)) in
+      let i = into-done s (length lent) (rows x) (read-filed x (k .0) h) (omega (arith, k .2)) in
       words-are ∙ ap (λ (o : Outcome (List Row)). wordsAfter o lent) i ∙ ap (λ (m : ℕ). words (rows x) ++ drop (3 * m) lent) c
 
   of-kept : (why : Refusal) → r ≡ answer.Refused why → after ≡ lent

@@ -487,13 +487,7 @@ pub fn file(stream: &[u8], rows: &mut [u32]) -> FilingAnswer
     ensures words { λ r. ⌜ now (rows .exit) ≡ wordsAfter (filingInto (now (stream .entry)) (ListN.length (now (rows .entry)))) (now (rows .entry)) ⌝ }
     ensures reading { λ r. ⌜ FiledByReading (now (stream .entry)) (now (rows .entry)) (now (rows .exit)) r ⌝ }
 {
-    if 16777216 < stream.len() {
-        return FilingAnswer::Refused(Refusal {
-            reason: Reason::TooLong,
-            place: 0,
-        });
-    }
-    match check_units(stream) {
+    match check(stream) {
         Checked::Good(units) => {
             if rows.len() / 3 < units {
                 return FilingAnswer::Refused(Refusal {
