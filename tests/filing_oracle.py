@@ -3,7 +3,8 @@
 
 Makes the cases of crates/run_filing and their answers. A case is a line, the number of words lent and the stream in
 hexadecimal ("-" for the empty one). An answer is a line: FILED and the number of units, or the refusal and its place,
-and then every word lent, each of them 7777777 before the call. TOO LONG is left out: its streams are over 16 MiB.
+then every word lent, each of them 7777777 before the call, and then a group of the stream, whose number is the words
+lent modulo 4. TOO LONG is left out: its streams are over 16 MiB.
 
 With no argument, or with --check, prints the answers, and fails where the stored cases are not those made here. With
 --write stores both. With --count says how often each answer is met.
@@ -91,8 +92,9 @@ def read_display(body, seen):
     given = body[1] >> 7
     need(len(body) >= (9 if given else 6), "SHORT")
     need(not seen, "TWICE")
-    judged(body, DISPLAY + (COLOUR if given else []) + SIZES)
+    record = judged(body, DISPLAY + (COLOUR if given else []) + SIZES)
     stuffed(body[8 if given else 5:])
+    return record
 
 
 def read_copyright(body):
@@ -117,6 +119,7 @@ class Filing:
         self.header = None
         self.display = False
         self.slice = -1
+        self.groups = []
 
     def unit(self, offset, code, body):
         need(code <= 0xB3 or 0xB5 <= code <= 0xB7, "UNKNOWN")
@@ -128,6 +131,7 @@ class Filing:
             need(self.stage in ("start", "slices"), "OUT OF PLACE")
             self.header = read_header(body)
             self.display = False
+            self.groups.append([self.header, None])
             self.stage = "head"
         elif code in (0xB2, 0xB5):
             need(self.stage in ("head", "picture"), "OUT OF PLACE")
@@ -155,7 +159,7 @@ class Filing:
         need(len(body) >= 1, "SHORT")
         number = body[0] >> 4
         if number == 2 and self.stage == "head":
-            read_display(body, self.display)
+            self.groups[-1][1] = read_display(body, self.display)
             self.display = True
             return False
         if number == 4:
@@ -164,11 +168,11 @@ class Filing:
         return True
 
 
-def filed(stream, lent):
-    """The answer, its number, and the rows to be written."""
-    if stream[:3] != PREFIX:
-        return "NO CODE", 0, []
+def read(stream):
+    """The refusal of a stream and its place, or none; and what was read."""
     filing = Filing()
+    if stream[:3] != PREFIX:
+        return ("NO CODE", 0), filing
     offset = 0
     while offset < len(stream):
         try:
@@ -178,19 +182,48 @@ def filed(stream, lent):
             end = len(stream) if end < 0 else end
             filing.unit(offset, stream[offset + 3], stream[offset + 4:end])
         except Refused as refusal:
-            return str(refusal), offset, []
+            return (str(refusal), offset), filing
         offset = end
     if filing.stage not in ("ended", "over"):
-        return "UNENDED", len(stream), []
+        return ("UNENDED", len(stream)), filing
+    return None, filing
+
+
+def filed(stream, lent):
+    """The answer, its number, and the rows to be written."""
+    refusal, filing = read(stream)
+    if refusal:
+        return *refusal, []
     if lent < len(filing.rows):
         return "FULL", 0, []
     return "FILED", len(filing.rows) // 3, filing.rows
 
 
+def shown(record, names):
+    return " ".join(str(record[name]) for name in names.split())
+
+
+def grouped(stream, number):
+    """Group `number` of a stream: its refusal, NO ROW, or the header's record and the display extension, given or not."""
+    refusal, filing = read(stream)
+    if refusal:
+        return f"{refusal[0]} {refusal[1]}"
+    if number >= len(filing.groups):
+        return "NO ROW"
+    head, display = filing.groups[number]
+    rate = head["high"] * 2 ** 18 + head["low"]
+    said = f"header {shown(head, 'profile level progressive horizontal vertical chroma precision aspect rate')} {rate} {shown(head, 'delay buffer')}"
+    if display is None:
+        return said + ", display not given"
+    colour = shown(display, "primaries transfer matrix") if display["given"] else "not given"
+    return f"{said}, display {shown(display, 'format range')} {colour} {shown(display, 'width height stereo')}"
+
+
 def answer(lent, stream):
     name, number, rows = filed(stream, lent)
     words = rows + [LENT] * (lent - len(rows))
-    return " ".join(map(str, [name, number] + words))
+    asked = lent % 4
+    return " ".join(map(str, [name, number] + words)) + f", group {asked}: {grouped(stream, asked)}"
 
 
 # Making streams.

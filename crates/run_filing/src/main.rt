@@ -1,9 +1,15 @@
 // Files streams from standard input and prints the answers.
 // A case is a line, the number of words lent and the stream in hexadecimal, "-" for the empty one. Its answer is a line too,
-// with every word lent after it. tests/filing_oracle.py makes the cases and works the answers out from document 01 alone.
+// with every word lent after it, and then one group of the stream: its number is the words lent modulo 4, so that all are asked.
+// tests/filing_oracle.py makes the cases and works the answers out from document 01 alone.
 use filing::FilingAnswer;
 use filing::Reason;
 use filing::Refusal;
+use groups::Display;
+use groups::GroupAnswer;
+use layout::Colour;
+use layout::DisplayExtension;
+use layout::SequenceHeader;
 use libc::STDIN_FILENO;
 ghost use Prim.Native.Nat.{_<_, _≤_};
 ghost use mathlib.Core.Path.{_≡_};
@@ -54,6 +60,67 @@ fn words(rows: &[u32]) {
     while i < rows.len() {
         word(rows[i]);
         i += 1;
+    }
+}
+
+// ── groups ──
+
+fn header(h: SequenceHeader) {
+    word(h.profile);
+    word(h.level);
+    word(h.progressive);
+    word(h.horizontal);
+    word(h.vertical);
+    word(h.chroma);
+    word(h.precision);
+    word(h.aspect);
+    word(h.rate);
+    word(h.bitrate);
+    word(h.delay);
+    word(h.buffer);
+}
+
+fn colour(c: Colour) {
+    match c {
+        Colour::Given(primaries, transfer, matrix) => {
+            word(primaries);
+            word(transfer);
+            word(matrix);
+        }
+        Colour::NotGiven => print::text(b" not given"),
+    }
+}
+
+fn extension(d: DisplayExtension) {
+    let c = d.colour;
+    word(d.format);
+    word(d.range);
+    colour(c);
+    word(d.width);
+    word(d.height);
+    word(d.stereo);
+}
+
+fn display(d: Display) {
+    print::text(b", display");
+    match d {
+        Display::Given(e) => extension(e),
+        Display::NotGiven => print::text(b" not given"),
+    }
+}
+
+fn group(stream: &[u8], g: usize) {
+    print::text(b", group");
+    print::number(g as u64);
+    print::text(b": ");
+    match groups::group_at(stream, g) {
+        GroupAnswer::Group(h, d) => {
+            print::text(b"header");
+            header(h);
+            display(d);
+        }
+        GroupAnswer::NoRow => print::text(b"NO ROW"),
+        GroupAnswer::Refused(r) => refusal(r),
     }
 }
 
@@ -120,6 +187,7 @@ fn bytes(s: &[u8], out: &mut [u8]) -> usize
 fn file(stream: &[u8], rows: &mut [u32]) {
     answer(filing::file(stream, rows));
     words(rows);
+    group(stream, rows.len() % 4);
     print::end();
 }
 
