@@ -1,5 +1,5 @@
 -- Document 01, "Refusal numbers": what keeps a body from obeying its layout. SHORT comes first, then the fields in bit order,
--- then the rules across fields, then the end. Nothing here reads.
+-- then the rules across fields, then the end. No field is read here: its value is the one whose bits stand in the body.
 use Prim.Native.Nat.{ℕ, _+_, _≤_, _<_}
 use mathlib.Core.Path.{_≡_}
 use mathlib.Core.Logic.{_≢_, _⊎_}
@@ -63,7 +63,7 @@ pub data Breaks (layout : Layout) (body : List ℕ) (why : Fault) : Type 0 where
   ended : (vs end : List ℕ) → Holds layout body vs end → AllAllowed (fields layout) vs → Crossed layout vs →
       ((zeros : ℕ) → end ≢ 1 ∷ replicate zeros 0) → why ≡ fault.Stuffing → Breaks layout body why
 
--- what it is refused for has this number
+-- what is broken has this number
 abbrev pub Numbered : (Fault → Type 0) → ℕ → Type 0
 Numbered Broken n = (why : Fault) × Broken why × (n ≡ faultNumber why)
 

@@ -2,7 +2,7 @@
 pub mod Layouts
 pub mod Records
 pub mod Obeys
-pub mod Breaks
 pub mod Reading
 pub mod Answers
+pub mod Breaks
 pub mod Ratios
