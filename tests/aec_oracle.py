@@ -197,15 +197,23 @@ def past_limit(count, x, c):
 FRESH = (0, 1023, 0)
 
 
-def mixed(data, count, n):
-    p = Payload(data, count)
-    line = 'mixed' + shown((data, count)) + ':'
+def begun(word, p, data, count):
+    """The first state, or none; either is printed after the call."""
+    line = word + shown((data, count)) + ':'
     try:
         x = begin(p)
     except Refused as refusal:
         print(line + ' ' + str(refusal))
-        return
+        return None
     print(line + put_state(x))
+    return x
+
+
+def mixed(data, count, n):
+    p = Payload(data, count)
+    x = begun('mixed', p, data, count)
+    if x is None:
+        return
     cs = [FRESH, FRESH, FRESH]
     going = True
     for _ in range(n):
@@ -232,13 +240,9 @@ def mixed(data, count, n):
 
 def alone(data, count, n):
     p = Payload(data, count)
-    line = 'alone' + shown((data, count)) + ':'
-    try:
-        x = begin(p)
-    except Refused as refusal:
-        print(line + ' ' + str(refusal))
+    x = begun('alone', p, data, count)
+    if x is None:
         return
-    print(line + put_state(x))
     c = FRESH
     for _ in range(n):
         try:

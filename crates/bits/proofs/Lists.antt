@@ -13,6 +13,15 @@ pub all-append : {A : Type 0} (P : A → Type 0) (l m : List A) → All P l → 
 all-append P [] m h k = k
 all-append P (x ∷ l) m h k = (h .0, all-append P l m (h .1) k)
 
+pub all-map : {A : Type 0} {P Q : A → Type 0} → ((a : A) → P a → Q a) → (l : List A) → All P l → All Q l
+all-map f [] h = tt
+all-map f (a ∷ l) h = (f a (h .0), all-map f l (h .1))
+
+-- where P holds of none, it does not hold of the one in the middle
+pub absent : {A : Type 0} (P : A → Type 0) (before : List A) (a : A) (after : List A) → All (λ x. ¬ P x) (before ++ a ∷ after) → P a → ⊥
+absent P [] a after n p = n .0 p
+absent P (b ∷ before) a after n p = absent P before a after (n .1) p
+
 pub all-drop : {A : Type 0} (P : A → Type 0) (n : ℕ) (l : List A) → All P l → All P (drop n l)
 all-drop P zero l h = h
 all-drop P (suc n) [] h = h
@@ -30,6 +39,10 @@ one-to-one f undo h a b e = sym (h a) ∙ ap undo e ∙ h b
 pub by-test {ℓ} : {P : Type ℓ} (t : Bool) → (t ≡ true → P) → (t ≡ false → P) → P
 by-test true yes-case no-case = yes-case refl
 by-test false yes-case no-case = no-case refl
+
+-- a test does not come out both ways
+pub contrary : {P : Type 0} (t : Bool) → t ≡ true → t ≡ false → P
+contrary t e f = absurd (false≢true (sym f ∙ e))
 
 pub and-false : (a : Bool) → a && false ≡ false
 and-false true = refl

@@ -10,7 +10,7 @@ use borrow.Author.Tests.{eqb-true, ltb-true, leb-true, lt-ltb, le-leb}
 use Rattle.bits.specs.Answers.{done, UNKNOWN, OUT-OF-PLACE, SHORT, VALUE, STUFFING, TWICE}
 use Rattle.bits.specs.Lists.{All}
 use Rattle.bits.specs.declared.Read.the-variants.{Value}
-use Rattle.bits.proofs.Lists.{by-test, and-true, all-append}
+use Rattle.bits.proofs.Lists.{by-test, contrary, and-true, absent, all-append, all-map}
 use Rattle.startcode.specs.Kinds.{kindOf}
 use Rattle.startcode.specs.declared.Kind.{Kind}
 use Rattle.startcode.specs.declared.Kind.the-variants as kind
@@ -33,16 +33,13 @@ use Rattle.grammar.specs.declared.State.the-variants.{Start, Head, Pictu
 use Rattle.grammar.proofs.Bodies.{header-good}
 use Rattle.grammar.proofs.Division.{number-two, number-not-two}
 use Rattle.grammar.proofs.Steps.{nonzero-false, false-nonzero, step-sound, step-complete}
-use Rattle.grammar.proofs.Sentences.{Some, At, more, begins-iff, sentence-left, absent, last-same, Ruled, Least, HeadSays, Says, says}
+use Rattle.grammar.proofs.Sentences.{Some, At, more, begins-iff, sentence-left, last-same, Ruled, Least, HeadSays, Says, says}
 use Rattle.grammar.proofs.Shapes.{slice-kind, kind-or-not, unknown-is, Holds, eqb-or, holds-in-place, left-goes, in-place-holds}
 
 -- ── one rule at a time ──
 
 went : {P : Type 0} {q : State} {n : ℕ} → go q ≡ stop n → P
 went e = let z : _≡_ {A = ℕ} 0 1 = cc in absurd (omega arith)
-
-contrary : {P : Type 0} (t : Bool) → t ≡ true → t ≡ false → P
-contrary t e f = let z : _≡_ {A = ℕ} 0 1 = cc in absurd (omega arith)
 
 -- a refusal by its number
 same-stop : (m n : ℕ) → (stop m ≡ stop n) ↔ (n ≡ m)
@@ -261,10 +258,6 @@ none-holds (x ∷ l) h = by-test (x .0) (λ t. absurd (h (inl t))) (λ f. rw f (
 one-holds : (l : List (Bool × Step)) (n : ℕ) → All (λ e. e .0 ≡ true → e .1 ≡ stop n) l → Holds (map testOf l) → choose l ≡ stop n
 one-holds (x ∷ l) n a (inl t) = rw t (a .0 t)
 one-holds (x ∷ l) n a (inr h) = by-test (x .0) (λ t. rw t (a .0 t)) (λ f. rw f (one-holds l n (a .1) h))
-
-all-map : {A : Type 0} {P Q : A → Type 0} → ((a : A) → P a → Q a) → (l : List A) → All P l → All Q l
-all-map f [] h = tt
-all-map f (a ∷ l) h = (f a (h .0), all-map f l (h .1))
 
 known : (c : ℕ) (k : Kind) → kindOf c ≡ done k → unknown c ≡ false
 known c k e = sym (unknown-is c) ∙ ap isUnknown e

@@ -8,7 +8,7 @@ use mathlib.Core.Option.{some}
 use native.Mathlib.Omega.{arith}
 use Rattle.bits.specs.Lists.{All}
 use Rattle.bits.specs.Bits.{bitsIn, bitsOf, readOn, readAt}
-use Rattle.bits.proofs.Lists.{all-append}
+use Rattle.bits.proofs.Lists.{all-append, absent}
 use Rattle.layout.specs.Answers.{recordOf, headerResult}
 use Rattle.layout.specs.Layouts.{fields, leastBytes}
 use Rattle.layout.specs.Obeys.{AllAllowed}
@@ -29,16 +29,13 @@ use Rattle.grammar.specs.declared.State.the-variants.{Start, Head, Pictu
 use Rattle.grammar.proofs.Bodies.{header-good}
 use Rattle.grammar.proofs.Cutting.{chunk, uncut}
 use Rattle.grammar.proofs.Division.{Goes, sequence, user, extension, display, first-picture, extra, first-slice, next-slice, next-picture, next-sequence, end, edit, end-edit, Accepts, sound, complete}
-use Rattle.grammar.proofs.Filing.{units-of-placed}
+use Rattle.grammar.proofs.Filing.{unitOf, units-of-placed}
 use Rattle.grammar.proofs.Unique.{Shorter, compare-prefixes}
 
 -- the units lead from the start to the state
 pub data At : List StreamUnit → State → Type 0 where
   start : At [] Start
   more : {us : List StreamUnit} {q q′ : State} {u : StreamUnit} → At us q → Goes q u q′ → At (us ++ u ∷ []) q′
-
-abbrev unitOf : Placed → StreamUnit
-unitOf m = m .unit
 
 -- ── the last unit with a code ──
 
@@ -52,11 +49,6 @@ last-more {Code} {us} {after} {v} u n l = record {
   code = l .code;
   last = all-append (λ v. ¬ Code (v .code)) after (u ∷ []) (l .last) (n, tt);
 }
-
--- where P holds of none, it does not hold of u
-pub absent : (P : StreamUnit → Type 0) (mid : List StreamUnit) (u : StreamUnit) (rest : List StreamUnit) → All (λ v. ¬ P v) (mid ++ u ∷ rest) → P u → ⊥
-absent P [] u rest a p = a .0 p
-absent P (m ∷ mid) u rest a p = absent P mid u rest (a .1) p
 
 shorter-same : (Code : ℕ → Type 0) {b c xs ys : List StreamUnit} {u v : StreamUnit} → All (λ v. ¬ Code (v .code)) xs → Code (v .code) → Shorter b (u ∷ xs) c (v ∷ ys) → (u ≡ v) × (xs ≡ ys)
 shorter-same Code {b} {c} {xs} {ys} {u} {v} a k s = by-mid (s .mid) (s .rest)

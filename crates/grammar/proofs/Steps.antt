@@ -11,7 +11,7 @@ use native.Mathlib.Omega.{arith}
 use Rattle.bits.specs.Answers.{SHORT, VALUE}
 use Rattle.bits.specs.Lists.{All}
 use Rattle.bits.specs.declared.Read.the-variants.{Value}
-use Rattle.bits.proofs.Lists.{by-test, and-true}
+use Rattle.bits.proofs.Lists.{by-test, contrary, and-true}
 use Rattle.layout.specs.Answers.{headerResult, extensionResult, isDisplay, displayShort, displayOf, faultNumber, numberOf}
 use Rattle.layout.specs.Answers as answers
 use Rattle.layout.specs.Reading.{Result, good, bad, allZero}
@@ -29,9 +29,6 @@ use Rattle.grammar.proofs.Division.{number-two, number-not-two, Goes, s
 
 stopped : {P : Type 0} {n : ℕ} {q : State} → stop n ≡ go q → P
 stopped e = let z : _≡_ {A = ℕ} 0 1 = cc in absurd (omega arith)
-
-contrary : {P : Type 0} (t : Bool) → t ≡ true → t ≡ false → P
-contrary t e f = let z : _≡_ {A = ℕ} 0 1 = cc in absurd (omega arith)
 
 zero-true : (b : List ℕ) → allZero b ≡ true → All (λ x. x ≡ 0) b
 zero-true [] e = tt

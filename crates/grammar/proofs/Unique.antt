@@ -5,6 +5,7 @@ use mathlib.Core.Logic.{_≢_, _⊎_, inl, inr}
 use mathlib.Core.List.{List, [], _∷_, _++_, append-assoc, append-nil}
 use native.Mathlib.Omega.{arith}
 use Rattle.bits.specs.Lists.{All}
+use Rattle.bits.proofs.Lists.{all-map}
 use Rattle.grammar.specs.Lists.{concatMap}
 use Rattle.grammar.specs.declared.SliceRule.{SliceRule}
 use Rattle.grammar.specs.Grammar.{StreamUnit, bytes, Alone, Picture, Group, Reading, pictureUnits, groupUnits, units, IsPicture, IsGroup, IsEnding, Reads, PictureExtra, HeadExtra, FirstIsI, Nonzero}
@@ -90,10 +91,6 @@ module _ {A : Type 0} (f : A → List StreamUnit) (Ok : A → Type 0) (Start Nex
       let r = many as′ bs x y (ha .1) (hb .1) nx ny (d .1) in
       let p = d .0 in let q = r .0 in
       (cc, r .1)
-
-all-map : {A : Type 0} {P Q : A → Type 0} → ((a : A) → P a → Q a) → (l : List A) → All P l → All Q l
-all-map f [] h = tt
-all-map f (a ∷ l) h = (f a (h .0), all-map f l (h .1))
 
 -- kinds of codes
 abbrev ExtraCode : ℕ → Type 0

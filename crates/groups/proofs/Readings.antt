@@ -12,7 +12,7 @@ use Rattle.bits.specs.Answers.{done, refused, NO-ROW}
 use Rattle.bits.specs.Lists.{All}
 use Rattle.bits.specs.declared.Read.{Read}
 use Rattle.bits.specs.declared.Read.the-variants.{Value, Missing, TooWide}
-use Rattle.bits.proofs.Lists.{by-test, all-append}
+use Rattle.bits.proofs.Lists.{by-test, absent, all-append, all-map}
 use Rattle.layout.specs.Answers.{answerOf, recordOf, headerOf, extensionResult, extensionOf, byNumber, copyrightOf, numberOf, isDisplay, isTwo}
 use Rattle.layout.specs.Answers as answers
 use Rattle.layout.specs.Obeys.{DisplayBody, plain, coloured}
@@ -53,10 +53,6 @@ unfolding groupsIn
 skip-all [] vs h = refl
 skip-all (u ∷ us) vs h = ap (λ (b : Begins). addGroup b (displayIn (us ++ vs)) (groupsIn (us ++ vs))) (begins-none u (h .0)) ∙ skip-all us vs (h .1)
 
-all-map : {A : Type 0} (P Q : A → Type 0) → ((a : A) → P a → Q a) → (l : List A) → All P l → All Q l
-all-map P Q f [] h = tt
-all-map P Q f (a ∷ l) h = (f a (h .0), all-map P Q f l (h .1))
-
 head-no : (u : StreamUnit) → HeadExtra u → NoHeader u
 head-no u (inl c) e = omega arith
 head-no u (inr h) e = omega (arith, h .0)
@@ -73,7 +69,7 @@ first-no u (inl c) e = omega arith
 first-no u (inr c) e = omega arith
 
 picture-no : (rule : SliceRule) (p : Picture) → IsPicture rule p → All NoHeader (pictureUnits p)
-picture-no rule p h = (first-no (p .head) (h .code), all-append NoHeader (p .extras) (p .slices) (all-map PictureExtra NoHeader extra-no (p .extras) (h .extras)) (all-map IsSlice NoHeader slice-no (p .slices) (h .slices)))
+picture-no rule p h = (first-no (p .head) (h .code), all-append NoHeader (p .extras) (p .slices) (all-map {P = PictureExtra} {Q = NoHeader} extra-no (p .extras) (h .extras)) (all-map {P = IsSlice} {Q = NoHeader} slice-no (p .slices) (h .slices)))
 
 pictures-no : (rule : SliceRule) (ps : List Picture) → All (IsPicture rule) ps → All NoHeader (concatMap pictureUnits ps)
 pictures-no rule [] h = tt
@@ -135,16 +131,12 @@ none-shown : (extras tail : List StreamUnit) → displayIn tail ≡ NotGiven →
 none-shown [] tail t h n = t
 none-shown (u ∷ us) tail t h n = one-more u (us ++ tail) inHead.Other (other u (h .0) (n .0)) ∙ none-shown us tail t (h .1) (n .1)
 
-absent : (before : List StreamUnit) (u : StreamUnit) (after : List StreamUnit) → All (λ v. ¬ DisplayUnit v) (before ++ u ∷ after) → DisplayUnit u → ⊥
-absent [] u after n d = n .0 d
-absent (b ∷ bs) u after n d = absent bs u after (n .1) d
-
 -- the one that is
 one-shown : (before : List StreamUnit) (u : StreamUnit) (after tail : List StreamUnit) (d : DisplayExtension) → All HeadExtra (before ++ u ∷ after) → AtMostOne DisplayUnit (before ++ u ∷ after) →
     DisplayUnit u → DisplayBody (u .body) d → displayIn ((before ++ u ∷ after) ++ tail) ≡ Given d
 one-shown [] u after tail d h o k b = one-more u (after ++ tail) (inHead.Display d) (display-unit u d k b)
 one-shown (x ∷ xs) u after tail d h o k b =
-    one-more x ((xs ++ u ∷ after) ++ tail) inHead.Other (other x (h .0) (λ i. absent xs u after (o .0 i) k)) ∙ one-shown xs u after tail d (h .1) (o .1) k b
+    one-more x ((xs ++ u ∷ after) ++ tail) inHead.Other (other x (h .0) (λ i. absent DisplayUnit xs u after (o .0 i) k)) ∙ one-shown xs u after tail d (h .1) (o .1) k b
 
 pub display-is : (extras tail : List StreamUnit) (d : Display) → displayIn tail ≡ NotGiven → All HeadExtra extras → AtMostOne DisplayUnit extras → DisplayIs extras d → displayIn (extras ++ tail) ≡ d
 display-is extras tail (Given d) t h o k =
@@ -208,7 +200,7 @@ group-first group rest h x k =
     let b = begins-one (group .head) (x .header) (h .code) (k .header) in
     let d : displayIn (body ++ rest) ≡ x .display = ap displayIn (append-assoc (group .extras) (concatMap pictureUnits (group .pictures)) rest)
     ∙ display-is (group .extras) (concatMap pictureUnits (group .pictures) ++ rest) (x .display) (pictures-past (group .pictures) rest (h .first)) (h .extras) (h .one-display) (k .display) in
-    let l = skip-all body rest (all-append NoHeader (group .extras) (concatMap pictureUnits (group .pictures)) (all-map HeadExtra NoHeader head-no (group .extras) (h .extras)) (pictures-no (sliceRule (h .header)) (group .pictures) (h .pictures))) in
+    let l = skip-all body rest (all-append NoHeader (group .extras) (concatMap pictureUnits (group .pictures)) (all-map {P = HeadExtra} {Q = NoHeader} head-no (group .extras) (h .extras)) (pictures-no (sliceRule (h .header)) (group .pictures) (h .pictures))) in
     ap (λ (y : Begins). addGroup y (displayIn (body ++ rest)) (groupsIn (body ++ rest))) b
     ∙ ap (λ (y : Display). record { header = x .header; display = y } ∷ groupsIn (body ++ rest)) d
     ∙ ap (λ (xs : List GroupRecord). x ∷ xs) l

@@ -13,7 +13,7 @@ use Rattle.bits.specs.Lists.{All}
 use Rattle.bits.specs.Bits.{bitsOf, readOn, readAt}
 use Rattle.bits.specs.declared.Read.{Read}
 use Rattle.bits.specs.declared.Read.the-variants as read
-use Rattle.bits.proofs.Lists.{by-test}
+use Rattle.bits.proofs.Lists.{by-test, contrary}
 use Rattle.bits.proofs.Laws.{length-bits, read-fits}
 use Rattle.bits.proofs.Main.{missing-exactly}
 use Rattle.layout.specs.Layouts.{nameOf, widthOf, ruleOf, Allowed, byRule, faultAt, fields, bitCount, leastBytes}
@@ -134,9 +134,6 @@ here f fs at v vs n =
       refused = ap (faultAt f) (let e : at ≡ at + 0 = omega arith in e);
     }
 
-both-ways : {P : Type 0} (t : Bool) → t ≡ true → t ≡ false → P
-both-ways t e f = let z : _≡_ {A = ℕ} 0 1 = cc in absurd (omega arith)
-
 judge-first : (fs : List Field) (at : ℕ) (vs : List ℕ) (why : Fault) → Fits fs vs → judge fs at vs ≡ Faulty why → FirstWrong fs at vs why
 unfolding judge Fits
 judge-first [] at [] why h e = let z : _≡_ {A = ℕ} 0 1 = cc in absurd (omega arith)
@@ -147,7 +144,7 @@ judge-first (f ∷ fs) at (v ∷ vs) why h e =
     (λ t. one-more f fs at v vs why (allowed-if (ruleOf f) v t) (judge-first fs (at + widthOf f) vs why (h .1) (sym (ap (λ (b : Bool). cond b (judge fs (at + widthOf f) vs) (Faulty (faultAt f at))) t) ∙ e)))
     (λ n.
     subst (FirstWrong (f ∷ fs) at (v ∷ vs)) (faulty-same (faultAt f at) why (sym (ap (λ (b : Bool). cond b (judge fs (at + widthOf f) vs) (Faulty (faultAt f at))) n) ∙ e))
-    (here f fs at v vs (λ a. both-ways (allows (ruleOf f) v) (if-allowed (ruleOf f) v a) n)))
+    (here f fs at v vs (λ a. contrary (allows (ruleOf f) v) (if-allowed (ruleOf f) v a) n)))
 
 not-allowed : (f : Field) (v : ℕ) → (Allowed (ruleOf f) v → ⊥) → allows (ruleOf f) v ≡ false
 not-allowed f v n = by-test (allows (ruleOf f) v) (λ t. absurd (n (allowed-if (ruleOf f) v t))) (λ e. e)
@@ -250,7 +247,7 @@ breaks-if layout body why e =
     (λ s.
     let p = both-fine first (cross layout vs) f in
     let q = if-same (not (stuffing end)) fault.Stuffing why s in
-    ended vs end (h .1) (fine (p .0)) (cross-fine layout vs (p .1)) (λ zeros z. both-ways (stuffing end) (is-stuffing end zeros z) (not-true (stuffing end) (q .0))) (q .1))
+    ended vs end (h .1) (fine (p .0)) (cross-fine layout vs (p .1)) (λ zeros z. contrary (stuffing end) (is-stuffing end zeros z) (not-true (stuffing end) (q .0))) (q .1))
     (λ s g. let z : _≡_ {A = ℕ} 0 1 = cc in absurd (omega arith))))
 
 pub if-breaks : (layout : Layout) (body : List ℕ) (why : Fault) → Breaks layout body why → reading layout body ≡ bad why
