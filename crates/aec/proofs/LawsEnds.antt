@@ -36,7 +36,7 @@ use Rattle.aec.proofs.LawsGood.{step-good, start-ranges, runs-then, run
 -- ── no two answers say the same ──
 
 pub refusal-one-to-one : {A : Type 0} → OneToOne (refusalSays {A = A})
-refusal-one-to-one {A} = told (refusalSays {A = A}) (answer (λ _. TooLong) (λ r. r)) (answer-refused (λ _. TooLong) (λ r. r))
+refusal-one-to-one {A} = told (refusalSays {A = A}) (answer (λ _. TooLong) (λ r. r)) (answer-refused {A = A} (λ _. TooLong) (λ r. r))
 
 pub started-one-to-one : OneToOne startedSays
 started-one-to-one = told startedSays (answer started.Done started.Refused) back

@@ -23,10 +23,13 @@ use Rattle.aec.specs.declared.DecodedPair.{DecodedPair}
 use Rattle.aec.specs.declared.DecodedPair.the-variants as decoded-pair
 
 -- a refusal's number; it carries nothing
+abbrev pub refusalNumber : Refusal → ℕ
+refusalNumber refusal.TooLong = TOO-LONG
+refusalNumber refusal.BadState = BAD-STATE
+refusalNumber refusal.PayloadOut = PAYLOAD-OUT
+
 abbrev pub refusalSays : {A : Type 0} → Refusal → Outcome A
-refusalSays refusal.TooLong = refused TOO-LONG []
-refusalSays refusal.BadState = refused BAD-STATE []
-refusalSays refusal.PayloadOut = refused PAYLOAD-OUT []
+refusalSays r = refused (refusalNumber r) []
 
 -- the start
 abbrev pub startedSays : Started → Outcome State

@@ -14,6 +14,7 @@ use bits::Bit;
 use bits::Read;
 
 // Document 01's rS, rT, valueS and valueT, and the place of the next bit.
+#[repr(C)]
 pub struct State {
     pub rs: u32,
     pub rt: u32,
@@ -23,6 +24,7 @@ pub struct State {
 }
 
 // Document 01's mps, the likelier bin, with lg and cycno.
+#[repr(C)]
 pub struct Context {
     pub mps: u32,
     pub lg: u32,
