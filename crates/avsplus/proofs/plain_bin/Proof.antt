@@ -1,0 +1,38 @@
+-- The bin with what follows it, or the state that was lent.
+use Prim.Native.Nat.{ℕ}
+use mathlib.Core.Path.{sym, ap, _∙_}
+use borrow.Author.Needs.{needs}
+use Rattle.aec.specs.Says.{steppedSays}
+use Rattle.avsplus.specs.declared.PlainBin.{PlainBin}
+use Rattle.avsplus.specs.Payloads.{noBin, plainAnswer}
+use Rattle.avsplus.proofs.plain_bin.Statement.{statement}
+use Rattle.avsplus.proofs.plain_bin.Tie as tie
+
+enum-known-answer : tie.Need-enum-known-answer
+enum-known-answer c = search needs
+
+enum-known-answer-2 : tie.Need-enum-known-answer-2
+enum-known-answer-2 c = search needs
+
+bin-number-requires : tie.Need-bin-number-requires
+bin-number-requires c κs = search needs
+
+returns : tie.Need-returns
+unfolding plainAnswer
+returns c =
+    let g = c .before in
+    let a = g .before .before .args in
+    ap (λ x. plainAnswer (a .state) (steppedSays x)) (sym (g .answer .given .1))
+
+returns-2 : tie.Need-returns-2
+unfolding plainAnswer
+returns-2 c =
+    let g = c .before .before in
+    let a = g .before .before .args in
+    let refusal : ℕ → PlainBin = λ n. record { status = n; bin = noBin; state = a .state } in
+    ap refusal (c .bin-number .ensures) ∙ ap (λ x. plainAnswer (a .state) (steppedSays x)) (sym (g .answer2 .given .1))
+
+pub plain-bin-spec : {M : Type 1} → statement M
+plain-bin-spec =
+    tie.close
+    (tie.spec enum-known-answer enum-known-answer-2 bin-number-requires returns returns-2)
