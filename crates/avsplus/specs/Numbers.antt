@@ -2,17 +2,17 @@
 use Prim.Native.Nat.{ℕ}
 use mathlib.Core.List.{List, [], _∷_}
 use mathlib.Core.Bool.{Bool, true, false}
-use Rattle.layout.specs.Records.{macroblockColumns, macroblockRows}
 use Rattle.layout.specs.Answers.{Extension, display, copyright, opaque}
 use Rattle.layout.specs.declared.SequenceHeader.{SequenceHeader}
 use Rattle.layout.specs.declared.Colour.{Colour}
 use Rattle.layout.specs.declared.Colour.the-variants as colour
 use Rattle.layout.specs.declared.DisplayExtension.{DisplayExtension}
 use Rattle.layout.specs.declared.CopyrightExtension.{CopyrightExtension}
-use Rattle.layout.specs.declared.Ratio.{Ratio}
-use Rattle.layout.specs.declared.Ratio.the-variants as ratio
 use Rattle.layout.specs.declared.Place.{Place}
 use Rattle.layout.specs.declared.Place.the-variants as place
+use Rattle.ratios.specs.declared.Ratio.{Ratio}
+use Rattle.ratios.specs.declared.Ratio.the-variants as ratio
+use Rattle.macroblocks.specs.Macroblocks.{macroblockColumns, macroblockRows}
 use Rattle.groups.specs.Groups.{GroupRecord}
 use Rattle.groups.specs.declared.Display.{Display}
 use Rattle.groups.specs.declared.Display.the-variants as shown

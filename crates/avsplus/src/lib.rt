@@ -15,11 +15,11 @@ use layout::DisplayExtension;
 use layout::ExtensionAnswer;
 use layout::HeaderAnswer;
 use layout::Place;
-use layout::Ratio;
 use layout::SequenceHeader;
 use payload::Golomb;
 use payload::Removed;
 use payload::SignedGolomb;
+use ratios::Ratio;
 use startcode::Kind;
 use startcode::UnitKind;
 ghost use mathlib.Core.Path.{_≡_};
@@ -30,7 +30,7 @@ ghost use Rattle.bits.specs.Answers.{Outcome, done, refused, mapDone, NO-ROW};
 ghost use Rattle.startcode.specs.Kinds.{kindOf};
 ghost use Rattle.startcode.specs.Prefix.{nextPrefix};
 ghost use Rattle.layout.specs.Answers as bodies;
-ghost use Rattle.layout.specs.Ratios.{frameRate, displayRatio};
+ghost use Rattle.ratios.specs.Ratios.{frameRate, displayRatio};
 ghost use Rattle.grammar.specs.Reader.{filingInto};
 ghost use Rattle.filing.specs.Units as units;
 ghost use Rattle.filing.specs.Filing.{filed, wordsAfter};
@@ -236,8 +236,8 @@ fn hand_header(h: SequenceHeader, numbers: &mut [u64]) -> Answer
         long(h.bitrate),
         long(h.delay),
         long(h.buffer),
-        long(layout::macroblock_columns(h)),
-        long(layout::macroblock_rows(h)),
+        long(macroblocks::macroblock_columns(h)),
+        long(macroblocks::macroblock_rows(h)),
     ];
     hand_over(&values, numbers)
 }
@@ -508,7 +508,7 @@ pub extern "C" fn avsplus_frame_rate(code: u32, numbers: &mut [u64]) -> Answer
     ensures answer { λ r. ⌜ r ≡ answered (done (ratioNumbers (frameRate code))) (now (numbers .entry)) ⌝ }
     ensures numbers { λ r. ⌜ now (numbers .exit) ≡ after (done (ratioNumbers (frameRate code))) (now (numbers .entry)) ⌝ }
 {
-    hand_ratio(layout::frame_rate(code), numbers)
+    hand_ratio(ratios::frame_rate(code), numbers)
 }
 
 // The display ratio of an aspect, given or not given.
@@ -517,7 +517,7 @@ pub extern "C" fn avsplus_display_ratio(aspect: u32, numbers: &mut [u64]) -> Ans
     ensures answer { λ r. ⌜ r ≡ answered (done (ratioNumbers (displayRatio aspect))) (now (numbers .entry)) ⌝ }
     ensures numbers { λ r. ⌜ now (numbers .exit) ≡ after (done (ratioNumbers (displayRatio aspect))) (now (numbers .entry)) ⌝ }
 {
-    hand_ratio(layout::display_ratio(aspect), numbers)
+    hand_ratio(ratios::display_ratio(aspect), numbers)
 }
 
 // ── payloads ──

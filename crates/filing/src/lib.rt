@@ -126,8 +126,8 @@ fn header_step(body: &[u8]) -> Stepped
     match layout::sequence_header(body) {
         HeaderAnswer::Header(h) => {
             let rule = SliceRule {
-                tested: layout::slices_tested(h),
-                rows: layout::macroblock_rows(h),
+                tested: macroblocks::slices_tested(h),
+                rows: macroblocks::macroblock_rows(h),
             };
             Stepped::Go(State::Head(rule, false))
         }

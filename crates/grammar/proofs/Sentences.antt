@@ -13,10 +13,11 @@ use Rattle.layout.specs.Answers.{recordOf, headerResult}
 use Rattle.layout.specs.Layouts.{fields, leastBytes}
 use Rattle.layout.specs.Obeys.{AllAllowed}
 use Rattle.layout.specs.Reading.{good, allows, valuesOf, judge, judged, cross, ended, reading}
-use Rattle.layout.specs.Records.{headerRecord, macroblockRows}
+use Rattle.layout.specs.Records.{headerRecord}
 use Rattle.layout.specs.declared.Layout.the-variants.{Header}
 use Rattle.layout.specs.declared.Place.the-variants as place
 use Rattle.layout.specs.declared.SequenceHeader.{SequenceHeader}
+use Rattle.macroblocks.specs.Macroblocks.{macroblockRows}
 use Rattle.startcode.specs.Prefix.{begins}
 use Rattle.grammar.specs.Lists.{concatMap}
 use Rattle.grammar.specs.Grammar.{StreamUnit, bytes, Alone, Reading, units, Nonzero, IsHeader, PictureExtra, DisplayUnit, endUnit, sliceRule}

@@ -17,7 +17,7 @@ use Rattle.startcode.specs.declared.Kind.{Kind}
 use Rattle.startcode.specs.declared.Kind.the-variants as kind
 use Rattle.startcode.proofs.Exactly.{isUnknown, unknown-bytes}
 use Rattle.layout.specs.Answers.{numberOf}
-use Rattle.layout.specs.Records.{slicesTested}
+use Rattle.macroblocks.specs.Macroblocks.{slicesTested}
 use Rattle.startcode.specs.Prefix.{begins}
 use Rattle.grammar.specs.Grammar.{StreamUnit, Alone, Extension, sliceRule}
 use Rattle.grammar.specs.Reader.{cut, Step, go, stop, choose, unknown, table, step, final}

@@ -10,9 +10,10 @@ use Rattle.bits.specs.Lists.{All}
 use Rattle.bits.specs.declared.Read.the-variants.{Value}
 use Rattle.layout.specs.Answers.{numberOf}
 use Rattle.layout.specs.Obeys.{Obeys}
-use Rattle.layout.specs.Records.{headerRecord, macroblockRows, slicesTested}
+use Rattle.layout.specs.Records.{headerRecord}
 use Rattle.layout.specs.declared.Layout.the-variants.{Header, Display, Coloured, Copyright}
 use Rattle.layout.specs.declared.SequenceHeader.{SequenceHeader}
+use Rattle.macroblocks.specs.Macroblocks.{macroblockRows, slicesTested}
 use Rattle.grammar.specs.Lists.{AtMostOne, concatMap}
 use Rattle.grammar.specs.declared.SliceRule.{SliceRule}
 

@@ -14,10 +14,10 @@ use Rattle.startcode.specs.declared.Kind.{Kind}
 use Rattle.startcode.specs.declared.Kind.the-variants as kind
 use Rattle.layout.specs.Answers.{numberOf}
 use Rattle.layout.specs.Breaks.{Breaks as BreaksLayout, ShortDisplay, BreaksDisplay, BreaksExtension, Numbered}
-use Rattle.layout.specs.Records.{macroblockRows, slicesTested}
 use Rattle.layout.specs.declared.Layout.the-variants.{Header}
 use Rattle.layout.specs.declared.Place.the-variants as place
 use Rattle.layout.specs.declared.SequenceHeader.{SequenceHeader}
+use Rattle.macroblocks.specs.Macroblocks.{macroblockRows, slicesTested}
 use Rattle.grammar.specs.Lists.{AtMostOne, concatMap}
 use Rattle.grammar.specs.Grammar.{StreamUnit, bytes, Alone, Reading, units, IsHeader, Nonzero, DisplayUnit, Reads}
 use Rattle.grammar.specs.Reader.{longestStream}

@@ -10,5 +10,4 @@ pub mod AnswerLaws
 pub mod ExtensionLaws
 pub mod BreakAnswers
 pub mod SaysLaws
-pub mod RatioLaws
 pub mod Main

@@ -5,4 +5,3 @@ pub mod Obeys
 pub mod Reading
 pub mod Answers
 pub mod Breaks
-pub mod Ratios

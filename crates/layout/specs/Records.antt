@@ -1,10 +1,8 @@
--- Document 01, "Layouts": the record that the values of a layout's fields make, and what is computed from it.
+-- Document 01, "Layouts": the record that the values of a layout's fields make.
 -- Marker bits and reserved bits are not recorded.
-use Prim.Native.Nat.{ℕ, _+_, _*_, _/_, _^_}
-use mathlib.Core.Bool.{Bool}
+use Prim.Native.Nat.{ℕ, _+_, _*_, _^_}
 use mathlib.Core.List.{List, [], _∷_}
 use mathlib.Core.Option.{Option, none, some}
-use lib.Dec.{leb}
 use Rattle.layout.specs.declared.SequenceHeader.{SequenceHeader}
 use Rattle.layout.specs.declared.Colour.the-variants.{Given, NotGiven}
 use Rattle.layout.specs.declared.DisplayExtension.{DisplayExtension}
@@ -64,18 +62,6 @@ headerRecord = do
     delay = delay;
     buffer = buffer;
   })
-
--- Macroblock columns = (horizontal size + 15) / 16, whole division.
-unfoldable pub macroblockColumns : SequenceHeader → ℕ
-macroblockColumns h = (h .horizontal + 15) / 16
-
--- Macroblock rows = (vertical size + 15) / 16, whole division.
-unfoldable pub macroblockRows : SequenceHeader → ℕ
-macroblockRows h = (h .vertical + 15) / 16
-
--- Where vertical size is over 2800, neither the order nor the rows of slices are tested.
-unfoldable pub slicesTested : SequenceHeader → Bool
-slicesTested h = leb (h .vertical) 2800
 
 -- ── display extension ──
 

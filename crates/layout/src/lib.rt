@@ -1,4 +1,4 @@
-// Bodies read by their layouts: sequence header, display extension, copyright extension; frame rates and display ratios.
+// Bodies read by their layouts: sequence header, display extension, copyright extension.
 use bits::Bit;
 use bits::Read;
 ghost use mathlib.Core.Path.{_≡_};
@@ -12,9 +12,8 @@ ghost use Rattle.bits.specs.Bits.{bitsOf};
 ghost use Rattle.layout.specs.Layouts.{headerFields, displayFields, colouredFields, copyrightFields, fields, leastBytes, faultAt};
 ghost use Rattle.layout.specs.Obeys.{Fits};
 ghost use Rattle.layout.specs.Reading.{allows, valuesOf, judge, stuffing, judged, ownerRules, both, ended, bodySays, reading};
-ghost use Rattle.layout.specs.Records.{macroblockColumns, macroblockRows, slicesTested, headerRecord, plainRecord, colouredRecord, copyrightRecord};
+ghost use Rattle.layout.specs.Records.{headerRecord, plainRecord, colouredRecord, copyrightRecord};
 ghost use Rattle.layout.specs.Answers.{reasonNumber, faultNumber, headerSays, headerOf, isDisplay, displayShort, extensionSays, extensionOf, answerOf, plainOf, colouredOf, displayOf, copyrightOf, byNumber};
-ghost use Rattle.layout.specs.Ratios.{frameRate, displayRatio};
 
 // The fields of the layouts. CopyrightNumber is the three parts together.
 pub enum Name {
@@ -213,29 +212,6 @@ pub enum ExtensionAnswer {
     Opaque(u32),
     Refused(Reason),
 }
-
-// A fraction by its numerator and denominator.
-pub enum Ratio {
-    Given(u32, u32),
-    NotGiven,
-}
-
-pub struct Fraction(pub u32, pub u32);
-
-// Frame rates, by codes from 1 on.
-const FRAME_RATES: [Fraction; 8] = [
-    Fraction(24000, 1001),
-    Fraction(24, 1),
-    Fraction(25, 1),
-    Fraction(30000, 1001),
-    Fraction(30, 1),
-    Fraction(50, 1),
-    Fraction(60000, 1001),
-    Fraction(60, 1),
-];
-
-// Display ratios, by aspect codes from 2 on.
-const DISPLAY_RATIOS: [Fraction; 3] = [Fraction(4, 3), Fraction(16, 9), Fraction(221, 100)];
 
 fn field_count(layout: Layout) -> usize
     ensures { λ r. ⌜ r ≡ length (fields layout) ⌝ }
@@ -597,27 +573,6 @@ pub fn sequence_header(body: &[u8]) -> HeaderAnswer
     }
 }
 
-// Macroblock columns of a picture.
-pub fn macroblock_columns(h: SequenceHeader) -> u32
-    ensures { λ r. ⌜ r ≡ macroblockColumns h ⌝ }
-{
-    ((long(h.horizontal) + 15) / 16) as u32
-}
-
-// Macroblock rows of a picture.
-pub fn macroblock_rows(h: SequenceHeader) -> u32
-    ensures { λ r. ⌜ r ≡ macroblockRows h ⌝ }
-{
-    ((long(h.vertical) + 15) / 16) as u32
-}
-
-// Whether the order and the rows of slices are tested.
-pub fn slices_tested(h: SequenceHeader) -> bool
-    ensures { λ r. ⌜ r ≡ slicesTested h ⌝ }
-{
-    h.vertical <= 2800
-}
-
 // A display extension's body, without colour and with it.
 fn plain(body: &[u8]) -> ExtensionAnswer
     ensures { λ r. ⌜ extensionSays r ≡ answerOf (plainOf (now (body .entry))) ⌝ }
@@ -727,32 +682,4 @@ pub fn extension(body: &[u8], place: Place) -> ExtensionAnswer
         Read::Missing => ExtensionAnswer::Refused(Reason::Short),
         Read::TooWide => ExtensionAnswer::Refused(Reason::Short),
     }
-}
-
-// The frame rate of a code.
-pub fn frame_rate(code: u32) -> Ratio
-    ensures { λ r. ⌜ r ≡ frameRate code ⌝ }
-{
-    if code < 1 {
-        return Ratio::NotGiven;
-    }
-    if 8 < code {
-        return Ratio::NotGiven;
-    }
-    let f = FRAME_RATES[wide(code - 1)];
-    Ratio::Given(f.0, f.1)
-}
-
-// The display ratio of an aspect code.
-pub fn display_ratio(aspect: u32) -> Ratio
-    ensures { λ r. ⌜ r ≡ displayRatio aspect ⌝ }
-{
-    if aspect < 2 {
-        return Ratio::NotGiven;
-    }
-    if 4 < aspect {
-        return Ratio::NotGiven;
-    }
-    let f = DISPLAY_RATIOS[wide(aspect - 2)];
-    Ratio::Given(f.0, f.1)
 }

@@ -6,11 +6,11 @@ use layout::DisplayExtension;
 use layout::ExtensionAnswer;
 use layout::HeaderAnswer;
 use layout::Place;
-use layout::Ratio;
 use layout::Reason;
 use layout::SequenceHeader;
 use libc::STDIN_FILENO;
 use libc::STDOUT_FILENO;
+use ratios::Ratio;
 ghost use Prim.Native.Nat.{_<_};
 
 fn text(s: &[u8]) {
@@ -44,9 +44,9 @@ fn header(h: SequenceHeader) {
     number(b", bit rate ", h.bitrate as u64);
     number(b", low delay ", h.delay as u64);
     number(b", buffer ", h.buffer as u64);
-    number(b", columns ", layout::macroblock_columns(h) as u64);
-    number(b", rows ", layout::macroblock_rows(h) as u64);
-    if layout::slices_tested(h) {
+    number(b", columns ", macroblocks::macroblock_columns(h) as u64);
+    number(b", rows ", macroblocks::macroblock_rows(h) as u64);
+    if macroblocks::slices_tested(h) {
         text(b", slices tested");
     } else {
         text(b", slices not tested");
@@ -158,7 +158,7 @@ fn ratio(r: Ratio) {
 fn frame_rates() {
     text(b"frame rates 0 to 16:");
     for code in 0..17u32 {
-        ratio(layout::frame_rate(code));
+        ratio(ratios::frame_rate(code));
     }
     text(b"\n");
 }
@@ -166,7 +166,7 @@ fn frame_rates() {
 fn display_ratios() {
     text(b"display ratios 0 to 16:");
     for code in 0..17u32 {
-        ratio(layout::display_ratio(code));
+        ratio(ratios::display_ratio(code));
     }
     text(b"\n");
 }

@@ -5,9 +5,9 @@ use mathlib.Core.List.{List}
 use mathlib.Core.Bool.{false}
 use borrow.Author.Needs.{needs}
 use Rattle.layout.specs.Answers.{headerSays, headerOf, headerResult}
-use Rattle.layout.specs.Records.{slicesTested, macroblockRows}
 use Rattle.layout.specs.declared.HeaderAnswer.{HeaderAnswer}
 use Rattle.layout.specs.declared.SequenceHeader.{SequenceHeader}
+use Rattle.macroblocks.specs.Macroblocks.{slicesTested, macroblockRows}
 use Rattle.grammar.specs.Grammar.{sliceRule}
 use Rattle.grammar.specs.Reader.{Step, go, stop, headerStep}
 use Rattle.grammar.specs.declared.SliceRule.{SliceRule}

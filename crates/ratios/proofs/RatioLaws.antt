@@ -5,9 +5,9 @@ use mathlib.Core.List.{List, [], _∷_}
 use native.Mathlib.Omega.{arith}
 use borrow.Author.Tests.{eq-eqb, ne-eqb}
 use lib.ListN.{length, getD}
-use Rattle.layout.specs.Ratios.{entryOf}
-use Rattle.layout.specs.declared.Fraction.{Fraction}
-use Rattle.layout.specs.declared.Ratio.the-variants.{Given, NotGiven}
+use Rattle.ratios.specs.Ratios.{entryOf}
+use Rattle.ratios.specs.declared.Fraction.{Fraction}
+use Rattle.ratios.specs.declared.Ratio.the-variants.{Given, NotGiven}
 
 pub entry-there : (first : ℕ) (fs : List Fraction) (code i : ℕ) (d : Fraction) → code ≡ first + i → i < length fs → entryOf first fs code ≡ Given (getD fs i d .0) (getD fs i d .1)
 unfolding entryOf

@@ -1,8 +1,8 @@
 -- The test is the definition's.
 use mathlib.Core.Path.{refl}
-use Rattle.layout.specs.Records.{slicesTested}
-use Rattle.layout.proofs.slices_tested.Statement.{statement}
-use Rattle.layout.proofs.slices_tested.Tie as tie
+use Rattle.macroblocks.specs.Macroblocks.{slicesTested}
+use Rattle.macroblocks.proofs.slices_tested.Statement.{statement}
+use Rattle.macroblocks.proofs.slices_tested.Tie as tie
 
 returns : tie.Need-returns
 unfolding slicesTested

@@ -1,11 +1,11 @@
 -- The entry of the code, by the rule of every such table.
 use mathlib.Core.Path.{sym}
 use native.Mathlib.Omega.{arith}
-use Rattle.layout.specs.Ratios.{frameRates, frameRate}
-use Rattle.layout.proofs.RatioLaws.{entry-there, entry-low, entry-high}
+use Rattle.ratios.specs.Ratios.{frameRates, frameRate}
+use Rattle.ratios.proofs.RatioLaws.{entry-there, entry-low, entry-high}
 use borrow.Author.Needs.{needs}
-use Rattle.layout.proofs.frame_rate.Statement.{statement}
-use Rattle.layout.proofs.frame_rate.Tie as tie
+use Rattle.ratios.proofs.frame_rate.Statement.{statement}
+use Rattle.ratios.proofs.frame_rate.Tie as tie
 
 returns : tie.Need-returns
 unfolding frameRate

@@ -1,11 +1,11 @@
 -- The entry of the code, by the rule of every such table.
 use mathlib.Core.Path.{sym}
 use native.Mathlib.Omega.{arith}
-use Rattle.layout.specs.Ratios.{displayRatios, displayRatio}
-use Rattle.layout.proofs.RatioLaws.{entry-there, entry-low, entry-high}
+use Rattle.ratios.specs.Ratios.{displayRatios, displayRatio}
+use Rattle.ratios.proofs.RatioLaws.{entry-there, entry-low, entry-high}
 use borrow.Author.Needs.{needs}
-use Rattle.layout.proofs.display_ratio.Statement.{statement}
-use Rattle.layout.proofs.display_ratio.Tie as tie
+use Rattle.ratios.proofs.display_ratio.Statement.{statement}
+use Rattle.ratios.proofs.display_ratio.Tie as tie
 
 returns : tie.Need-returns
 unfolding displayRatio

@@ -3,9 +3,9 @@ use Prim.Native.Nat.{ℕ, suc}
 use mathlib.Core.List.{List, [], _∷_}
 use mathlib.Core.Bool.{cond}
 use lib.Dec.{eqb}
-use Rattle.layout.specs.declared.Fraction.{Fraction}
-use Rattle.layout.specs.declared.Ratio.{Ratio}
-use Rattle.layout.specs.declared.Ratio.the-variants.{Given, NotGiven}
+use Rattle.ratios.specs.declared.Fraction.{Fraction}
+use Rattle.ratios.specs.declared.Ratio.{Ratio}
+use Rattle.ratios.specs.declared.Ratio.the-variants.{Given, NotGiven}
 
 infix 80 _over_
 abbrev pub _over_ : ℕ → ℕ → Fraction

@@ -1,9 +1,9 @@
 -- The division is the definition's.
 use native.Mathlib.Omega.{arith}
-use Rattle.layout.specs.Records.{macroblockColumns}
+use Rattle.macroblocks.specs.Macroblocks.{macroblockColumns}
 use borrow.Author.Needs.{needs}
-use Rattle.layout.proofs.macroblock_columns.Statement.{statement}
-use Rattle.layout.proofs.macroblock_columns.Tie as tie
+use Rattle.macroblocks.proofs.macroblock_columns.Statement.{statement}
+use Rattle.macroblocks.proofs.macroblock_columns.Tie as tie
 
 long-requires : tie.Need-long-requires
 long-requires c κs = search needs

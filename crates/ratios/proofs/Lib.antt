@@ -1,0 +1,2 @@
+-- The rule of a table of fractions.
+pub mod RatioLaws

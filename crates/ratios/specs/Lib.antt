@@ -1,0 +1,2 @@
+-- Document 01, "Layouts": frame rates and display ratios.
+pub mod Ratios
