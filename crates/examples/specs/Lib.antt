@@ -1,0 +1,2 @@
+-- Document 01, "Table of proved examples".
+pub mod Examples
