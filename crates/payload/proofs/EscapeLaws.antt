@@ -1,11 +1,11 @@
--- The laws of escape removal: bits pushed one by one, the bits that stay, and the end.
+-- The laws of escape removal: bits pushed, the bits that stay, and the end.
 use Prim.Native.Nat.{ℕ, zero, suc, _+_, _-_, _*_, _/_, _%_, _^_, _≤_, _<_}
 use mathlib.Core.Path.{_≡_, refl, sym, ap, _∙_}
 use mathlib.Core.List.{List, [], _∷_, _++_, append-assoc, append-nil}
 use mathlib.Core.Bool.{true, cond, _&&_}
 use native.Mathlib.Omega.{arith}
 use native.Mathlib.Numerals.{add-one}
-use native.Mathlib.Nat.{pow-suc, mod-lt}
+use native.Mathlib.Nat.{pow-suc}
 use lib.Bits.{and-mask, bitAnd}
 use lib.Dec.{eqb, leb}
 use lib.ListN.{length, getD, take, drop, set, length-append, length-set, length-take, drop-of-length-le, take-append-drop}
@@ -34,7 +34,7 @@ module _ (out₀ out : List ℕ) (p₀ : Packer) (full value k b v : ℕ) (l : L
   counted : length (l ++ (b ∷ [])) ≡ length l + 1
   counted = length-append l (b ∷ [])
 
-  pub pushed-more : (k ≡ 7 → ⊥) → Pushed out₀ out p₀ (record { full = full; value = v; k = k + 1 }) (l ++ (b ∷ []))
+  pushed-more : (k ≡ 7 → ⊥) → Pushed out₀ out p₀ (record { full = full; value = v; k = k + 1 }) (l ++ (b ∷ []))
   pushed-more n =
       let c = counted in
       let q : 2 ^ (k + 1) ≡ 2 ^ k * 2 = rw add-one (pow-suc 2 k) in
@@ -46,7 +46,7 @@ module _ (out₀ out : List ℕ) (p₀ : Packer) (full value k b v : ℕ) (l : L
         left = w .left;
       }
 
-  pub pushed-full : k ≡ 7 → full < length out → Pushed out₀ (set out full v) p₀ (record { full = full + 1; value = 0; k = 0 }) (l ++ (b ∷ []))
+  pushed-full : k ≡ 7 → full < length out → Pushed out₀ (set out full v) p₀ (record { full = full + 1; value = 0; k = 0 }) (l ++ (b ∷ []))
   pushed-full n h =
       let c = counted in
       let t : take (full + 1) (set out full v) ≡ take full out ++ (v ∷ []) = rw add-one (take-suc-set out full v h) in
@@ -60,17 +60,35 @@ module _ (out₀ out : List ℕ) (p₀ : Packer) (full value k b v : ℕ) (l : L
         left = drop-set-lt (full + 1) out full v (omega arith) ∙ sym (drop-drop 1 full out) ∙ ap (drop 1) (w .left) ∙ drop-drop 1 full out₀;
       }
 
+-- ── two bits are pushed, where no byte gets full between them ──
+
+module _ (out₀ out : List ℕ) (p₀ : Packer) (full value k b c v : ℕ) (l : List ℕ) (w : Pushed out₀ out p₀ (record { full = full; value = value; k = k }) l)
+    (even : k % 2 ≡ 0) (e : v ≡ (value * 2 + b) * 2 + c) (i : b < 2) (j : c < 2) where
+  first : Pushed out₀ out p₀ (record { full = full; value = value * 2 + b; k = k + 1 }) (l ++ (b ∷ []))
+  first = pushed-more out₀ out p₀ full value k b (value * 2 + b) l w refl i (λ n. omega arith)
+
+  pub pair-more : (k ≡ 6 → ⊥) → Pushed out₀ out p₀ (record { full = full; value = v; k = k + 2 }) (l ++ (b ∷ []) ++ (c ∷ []))
+  pair-more n =
+      let two : k + 2 ≡ k + 1 + 1 = omega arith in
+      rw two (pushed-more out₀ out p₀ full (value * 2 + b) (k + 1) c v (l ++ (b ∷ [])) first e j (λ m. n (omega arith)))
+
+  pub pair-full : k ≡ 6 → full < length out → Pushed out₀ (set out full v) p₀ (record { full = full + 1; value = 0; k = 0 }) (l ++ (b ∷ []) ++ (c ∷ []))
+  pair-full n = pushed-full out₀ out p₀ full (value * 2 + b) (k + 1) c v (l ++ (b ∷ [])) first e j (omega arith)
+
 -- ── the bits of a byte ──
 
 -- the bit that the code picks by a shift and a mask
-pub picked : (b x j : ℕ) → x ≡ b → j < 8 → bitAnd (x / 2 ^ (7 - j)) 1 ≡ getD (bitsIn 8 b) j 0
-picked b x j e h = and-mask (x / 2 ^ (7 - j)) 1 ∙ ap (λ (y : ℕ). y / 2 ^ (7 - j) % 2) e ∙ sym (bit-in 8 b j h)
+pub picked : (b x j : ℕ) → x ≡ b → j < 8 → (bitAnd (x / 2 ^ (7 - j)) 1 ≡ getD (bitsIn 8 b) j 0) × (bitAnd (x / 2 ^ (7 - j)) 1 < 2)
+picked b x j e h = let m = and-mask (x / 2 ^ (7 - j)) 1 in (m ∙ ap (λ (y : ℕ). y / 2 ^ (7 - j) % 2) e ∙ sym (bit-in 8 b j h), omega arith)
 
-pub bit-lt : (b j : ℕ) → j < 8 → getD (bitsIn 8 b) j 0 < 2
-bit-lt b j h = let e = bit-in 8 b j h in omega (arith, mod-lt (b / 2 ^ (7 - j)) {m = 2} (omega arith))
-
-pub take-bit : (b j : ℕ) → j < 8 → take (j + 1) (bitsIn 8 b) ≡ take j (bitsIn 8 b) ++ (getD (bitsIn 8 b) j 0 ∷ [])
+take-bit : (b j : ℕ) → j < 8 → take (j + 1) (bitsIn 8 b) ≡ take j (bitsIn 8 b) ++ (getD (bitsIn 8 b) j 0 ∷ [])
 take-bit b j h = let l = length-in 8 b in rw add-one (take-suc (bitsIn 8 b) j 0 (omega arith))
+
+pub take-pair : (b j x y : ℕ) → x ≡ getD (bitsIn 8 b) j 0 → y ≡ getD (bitsIn 8 b) (j + 1) 0 → j + 1 < 8 →
+    take (j + 2) (bitsIn 8 b) ≡ take j (bitsIn 8 b) ++ (x ∷ []) ++ (y ∷ [])
+take-pair b j x y p q h =
+    let n : j + 2 ≡ j + 1 + 1 = omega arith in
+    rw (n, p, q) (take-bit b (j + 1) h ∙ ap (λ (l : List ℕ). l ++ (getD (bitsIn 8 b) (j + 1) 0 ∷ [])) (take-bit b j (omega arith)))
 
 pub take-bits : (b j : ℕ) → j ≤ 8 → length (take j (bitsIn 8 b)) ≡ j
 take-bits b j h = let l = length-in 8 b in length-take-le j (bitsIn 8 b) (omega arith)
@@ -90,8 +108,8 @@ zeroRun (b ∷ l) = cond (eqb b 0) (zeroRun l + 1) 0
 abbrev pub keptWidth : ℕ → ℕ → ℕ
 keptWidth zeros byte = cond (leb 2 zeros && eqb byte 2) 6 8
 
-pub width-le : (zeros byte : ℕ) → keptWidth zeros byte ≤ 8
-width-le zeros byte = by-test (leb 2 zeros && eqb byte 2) (λ t. rw t (omega arith)) (λ f. rw f (omega arith))
+pub width-is : (zeros byte : ℕ) → (6 ≤ keptWidth zeros byte) × (keptWidth zeros byte % 2 ≡ 0) × (keptWidth zeros byte ≤ 8)
+width-is zeros byte = by-test (leb 2 zeros && eqb byte 2) (λ t. rw t (omega arith, refl, omega arith)) (λ f. rw f (omega arith, refl, omega arith))
 
 all-bits : (byte : ℕ) → bitsIn 8 byte ≡ take 8 (bitsIn 8 byte)
 all-bits byte = let l = length-in 8 byte in sym (take-all 8 (bitsIn 8 byte) (omega arith))
@@ -124,6 +142,7 @@ pub record Copying (raw out₀ out : List ℕ) (p : Packer) (zeros i : ℕ) : Ty
   pub few : zeros ≤ i
   pub same : length out ≡ length out₀
   pub partial : Partial p
+  pub pairs : p .k % 2 ≡ 0
   pub bound : p .full * 8 + p .k ≤ i * 8
   pub count : p .full * 8 + p .k + length (copied (earlier i raw) (drop i raw)) ≡ length (unescaped raw)
   pub made : take (p .full) out ++ packOn (p .value) (p .k) (copied (earlier i raw) (drop i raw)) ≡ pack (unescaped raw)
@@ -137,6 +156,7 @@ copying-start raw out =
       few = omega arith;
       same = refl;
       partial = record { few = omega arith; small = omega arith };
+      pairs = refl;
       bound = omega arith;
       count = omega arith;
       made = refl;
@@ -154,7 +174,7 @@ module _ (raw out₀ out : List ℕ) (p : Packer) (zeros i : ℕ) (g : Copying r
       kept-width (earlier i raw) byte ∙ ap (λ (n : ℕ). take (keptWidth n byte) (bitsIn 8 byte)) (sym (g .run)) ∙ ap (λ (n : ℕ). take n (bitsIn 8 byte)) (sym e) in
       let head : copied (earlier i raw) (drop i raw) ≡ take w (bitsIn 8 byte) ++ rest = copied-cons (earlier i raw) raw i h ∙ ap (λ (x : List ℕ). x ++ rest) stay in
       let n : length (copied (earlier i raw) (drop i raw)) ≡ length (take w (bitsIn 8 byte)) + length rest = ap length head ∙ length-append (take w (bitsIn 8 byte)) rest in
-      let v = width-le zeros byte in
+      let v = width-is zeros byte in
       let l = take-bits byte w (omega arith) in
       let next : earlier (i + 1) raw ≡ earlier (suc i) raw = ap (λ (j : ℕ). earlier j raw) (add-one i) in
       let d : p .full + (p′ .full - p .full) ≡ p′ .full = omega (arith, u .count, u .partial .few, g .partial .few) in
@@ -167,6 +187,7 @@ module _ (raw out₀ out : List ℕ) (p : Packer) (zeros i : ℕ) (g : Copying r
         few = by-test (eqb byte 0) (λ t. let y : zeros′ ≡ zeros + 1 = z ∙ rw t in omega (arith, g .few)) (λ f. let y : zeros′ ≡ 0 = z ∙ rw f in omega arith);
         same = u .same ∙ g .same;
         partial = u .partial;
+        pairs = omega (arith, u .count, g .pairs);
         bound = omega (arith, u .count, g .bound);
         count = rw next (omega (arith, u .count, g .count));
         made = rw next (u .made rest ∙ ap (λ (x : List ℕ). take (p .full) out ++ packOn (p .value) (p .k) x) (sym head) ∙ g .made);

@@ -1,5 +1,5 @@
 -- What the private functions promise one another; no part of document 01.
-use Prim.Native.Nat.{ℕ, _+_, _*_, _^_, _<_}
+use Prim.Native.Nat.{ℕ, _+_, _*_, _%_, _^_, _≤_, _<_}
 use mathlib.Core.Path.{_≡_}
 use mathlib.Core.List.{List, [], _++_}
 use lib.ListN.{length, take, drop}
@@ -11,6 +11,14 @@ use Rattle.payload.specs.declared.Packer.{Packer}
 pub record Partial (p : Packer) : Type 0 where
   pub few : p .k < 8
   pub small : p .value < 2 ^ p .k
+
+-- what pushing asks: bits come in pairs, and there is room for them
+pub record Pushable (out : List ℕ) (p : Packer) (width : ℕ) : Type 0 where
+  pub partial : Partial p
+  pub pairs : p .k % 2 ≡ 0
+  pub even : width % 2 ≡ 0
+  pub most : width ≤ 8
+  pub room : p .full * 8 + p .k + width ≤ length out * 8
 
 -- Bits were pushed: with whatever follows, the bytes are those of the bits before, these and what follows.
 pub record Pushed (out₀ out : List ℕ) (p₀ p : Packer) (bits : List ℕ) : Type 0 where

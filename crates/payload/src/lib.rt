@@ -6,11 +6,11 @@ ghost use mathlib.Core.Bool.{cond, _&&_};
 ghost use mathlib.Core.List.{[], _++_};
 ghost use Prim.Native.Nat.{_+_, _*_, _^_, _≤_, _<_};
 ghost use lib.Dec.{leb, eqb};
-ghost use lib.ListN.{length, take, drop};
+ghost use lib.ListN.{length, getD, take, drop};
 ghost use Rattle.bits.specs.Bits.{bitsIn, packOn, payload};
 ghost use Rattle.payload.specs.Escape.{removal, outputAfter, removedSays};
 ghost use Rattle.payload.specs.Golomb.{zerosOn, golomb, golombSays, standsFor, signedGolomb, signedSays};
-ghost use Rattle.payload.specs.Inside.{Partial, Pushed, Copied};
+ghost use Rattle.payload.specs.Inside.{Partial, Pushable, Pushed, Copied};
 
 // ── escape removal ──
 
@@ -34,9 +34,17 @@ fn wide(x: u8) -> u32
     x as u32
 }
 
-// The first width bits of a byte are pushed, one at a time.
+// The bit at place j of a byte.
+fn bit_of(byte: u8, j: u32) -> u32
+    requires { ⌜ j < 8 ⌝ }
+    ensures { λ r. ⌜ (r ≡ getD (bitsIn 8 byte) j 0) × (r < 2) ⌝ }
+{
+    wide(byte) >> (7 - j) & 1
+}
+
+// The first width bits of a byte are pushed, two a turn: counts stay even, so a byte gets full only at a turn's end.
 fn push_bits(out: &mut [u8], p: Packer, byte: u8, width: u32) -> Packer
-    requires { ⌜ (width ≤ 8) × Partial p × (p .full * 8 + p .k + width ≤ length (now out) * 8) ⌝ }
+    requires { ⌜ Pushable (now out) p width ⌝ }
     ensures { λ r. ⌜ Pushed (now (out .entry)) (now (out .exit)) p r (take width (bitsIn 8 byte)) ⌝ }
 {
     let mut full = p.full;
@@ -44,17 +52,17 @@ fn push_bits(out: &mut [u8], p: Packer, byte: u8, width: u32) -> Packer
     let mut k = p.k;
     let mut j: u32 = 0;
     while j < width {
-        let bit = wide(byte) >> (7 - j) & 1;
-        value = (value << 1) + bit;
-        if k == 7 {
+        value = (value << 1) + bit_of(byte, j);
+        value = (value << 1) + bit_of(byte, j + 1);
+        if k == 6 {
             out[full] = value as u8;
             full += 1;
             value = 0;
             k = 0;
         } else {
-            k += 1;
+            k += 2;
         }
-        j += 1;
+        j += 2;
     }
     Packer {
         full: full,
@@ -81,6 +89,18 @@ fn zeros_after(zeros: usize, byte: u8) -> usize
     if byte == 0 { zeros + 1 } else { 0 }
 }
 
+// Bits that stay of a byte are pushed. Each width stands as a number, for the compiler to unroll the loop over it.
+fn push_kept(out: &mut [u8], p: Packer, byte: u8, width: u32) -> Packer
+    requires { ⌜ (6 ≤ width) × Pushable (now out) p width ⌝ }
+    ensures { λ r. ⌜ Pushed (now (out .entry)) (now (out .exit)) p r (take width (bitsIn 8 byte)) ⌝ }
+{
+    if width == 8 {
+        push_bits(out, p, byte, 8)
+    } else {
+        push_bits(out, p, byte, 6)
+    }
+}
+
 // The bits that stay are pushed; the last byte may be still to be written.
 fn copy_bits(raw: &[u8], out: &mut [u8]) -> Packer
     requires { ⌜ (length (now raw) ≤ 65536) × (length (now raw) ≤ length (now out)) ⌝ }
@@ -96,7 +116,7 @@ fn copy_bits(raw: &[u8], out: &mut [u8]) -> Packer
     while i < raw.len() {
         let byte = raw[i];
         let width = kept_width(zeros, byte);
-        p = push_bits(out, p, byte, width);
+        p = push_kept(out, p, byte, width);
         zeros = zeros_after(zeros, byte);
         i += 1;
     }

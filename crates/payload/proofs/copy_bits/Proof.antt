@@ -3,7 +3,7 @@ use Prim.Native.Nat.{_-_}
 use native.Mathlib.Omega.{arith}
 use borrow.Author.Needs.{needs}
 use lib.ListN.{length, getD}
-use Rattle.payload.proofs.EscapeLaws.{Copying, copying-start, copying-step, copying-end, width-le}
+use Rattle.payload.proofs.EscapeLaws.{Copying, copying-start, copying-step, copying-end, width-is}
 use Rattle.payload.proofs.copy_bits.Statement.{statement}
 use Rattle.payload.proofs.copy_bits.Tie as tie
 
@@ -22,13 +22,14 @@ shared-slice-read-byte c = search needs
 kept-width-requires : tie.Need-kept-width-requires Inv-loop μ-loop
 kept-width-requires c κs = search needs
 
-push-bits-requires : tie.Need-push-bits-requires Inv-loop μ-loop
-push-bits-requires c κs =
+push-kept-requires : tie.Need-push-kept-requires Inv-loop μ-loop
+push-kept-requires c κs =
     let l = c .before .before .before .before in
     let a = l .before .before .before in
-    let w = width-le (l .loop .zeros) (getD (a .args .raw .now) (l .loop .i) 0) in
+    let w = width-is (l .loop .zeros) (getD (a .args .raw .now) (l .loop .i) 0) in
     let e = c .before .kept-width .ensures in
-    (omega arith, l .loop .inv .partial, omega (arith, l .loop .inv .bound, l .loop .inv .same))
+    let inv = l .loop .inv in
+    (omega arith, record { partial = inv .partial; pairs = inv .pairs; even = omega arith; most = omega arith; room = omega (arith, inv .bound, inv .same) })
 
 zeros-after-requires : tie.Need-zeros-after-requires Inv-loop μ-loop
 zeros-after-requires c κs =
@@ -48,8 +49,8 @@ loop-again c =
     let w = u .before .before in
     let l = w .before .before .before in
     let a = l .before .before .before in
-    copying-step (a .args .raw .now) (a .args .out .now) (l .loop .out) (l .loop .p) (l .loop .zeros) (l .loop .i) (l .loop .inv) _ (u .push-bits .result) (w .kept-width .result) (c .zeros-after .result)
-    (w .before .before .loop-test .taken) (w .kept-width .ensures) (c .zeros-after .ensures) (u .push-bits .ensures)
+    copying-step (a .args .raw .now) (a .args .out .now) (l .loop .out) (l .loop .p) (l .loop .zeros) (l .loop .i) (l .loop .inv) _ (u .push-kept .result) (w .kept-width .result) (c .zeros-after .result)
+    (w .before .before .loop-test .taken) (w .kept-width .ensures) (c .zeros-after .ensures) (u .push-kept .ensures)
 
 same-length : tie.Need-same-length Inv-loop μ-loop
 same-length c = search needs
@@ -69,7 +70,7 @@ copy-bits-spec =
     loop-holds
     shared-slice-read-byte
     kept-width-requires
-    push-bits-requires
+    push-kept-requires
     zeros-after-requires
     add-i
     loop-less
