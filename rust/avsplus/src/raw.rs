@@ -1,0 +1,299 @@
+//! The C interface as its header has it, for callers who want no layer between.
+//!
+//! A pointer lent with a length points to that many elements, and a lent output overlaps nothing else that is lent. A null
+//! pointer may be lent with length 0 only. No function allocates, keeps a pointer, or writes past what it says. A refusal, and
+//! something not given, leave all lent memory as it was.
+
+/// Status: done, or FILED for filing.
+pub const AVSPLUS_DONE: u32 = 0;
+/// Status: the stream does not begin with 00 00 01.
+pub const AVSPLUS_NO_CODE: u32 = 1;
+/// Status: a prefix has no code byte after it.
+pub const AVSPLUS_CUT: u32 = 2;
+/// Status: code byte 00 followed by 00 01.
+pub const AVSPLUS_OVERLAP: u32 = 3;
+/// Status: a code byte that names no unit.
+pub const AVSPLUS_UNKNOWN: u32 = 4;
+/// Status: the grammar has no such unit here.
+pub const AVSPLUS_OUT_OF_PLACE: u32 = 5;
+/// Status: a body too short for its layout.
+pub const AVSPLUS_SHORT: u32 = 6;
+/// Status: a marker bit is 0.
+pub const AVSPLUS_MARKER: u32 = 7;
+/// Status: a value that is ruled out.
+pub const AVSPLUS_VALUE: u32 = 8;
+/// Status: a body's end is not as required.
+pub const AVSPLUS_STUFFING: u32 = 9;
+/// Status: a second display extension after one sequence header.
+pub const AVSPLUS_TWICE: u32 = 10;
+/// Status: the stream stops before it is complete.
+pub const AVSPLUS_UNENDED: u32 = 11;
+/// Status: the lent rows, numbers or output are too small.
+pub const AVSPLUS_FULL: u32 = 12;
+/// Status: over the limit.
+pub const AVSPLUS_TOO_LONG: u32 = 13;
+/// Status: a bit is wanted and none is left.
+pub const AVSPLUS_PAYLOAD_OUT: u32 = 14;
+/// Status: a bin state or context outside its ranges.
+pub const AVSPLUS_BAD_STATE: u32 = 15;
+/// Status: no such row or group.
+pub const AVSPLUS_NO_ROW: u32 = 16;
+
+/// The most bytes of a stream.
+pub const AVSPLUS_LONGEST_STREAM: u32 = 16_777_216;
+/// The most bytes of a payload.
+pub const AVSPLUS_LONGEST_PAYLOAD: u32 = 65_536;
+
+/// Words of a row: code, offset of the start code, length of the body.
+pub const AVSPLUS_ROW_WORDS: usize = 3;
+/// Numbers of a sequence header: profile, level, progressive, horizontal, vertical, chroma, precision, aspect, rate, bit rate,
+/// low delay, buffer size, macroblock columns, macroblock rows.
+pub const AVSPLUS_HEADER_NUMBERS: usize = 14;
+/// Numbers of a display extension: format, range, width, height, stereo.
+pub const AVSPLUS_DISPLAY_NUMBERS: usize = 5;
+/// Numbers of a colour: primaries, transfer, matrix.
+pub const AVSPLUS_COLOUR_NUMBERS: usize = 3;
+/// Numbers of a copyright extension: flag, owner, original, copyright number.
+pub const AVSPLUS_COPYRIGHT_NUMBERS: usize = 4;
+/// Numbers of a ratio: numerator, denominator.
+pub const AVSPLUS_RATIO_NUMBERS: usize = 2;
+
+/// Is no Exp-Golomb number.
+pub const AVSPLUS_NO_NUMBER: u32 = u32::MAX;
+/// Is no signed Exp-Golomb number.
+pub const AVSPLUS_NO_SIGNED_NUMBER: i32 = i32::MIN;
+/// Is no bin: a bin is 0 or 1.
+pub const AVSPLUS_NO_BIN: u32 = 2;
+
+/// Kind: a slice.
+pub const AVSPLUS_SLICE: u32 = 0;
+/// Kind: a sequence header.
+pub const AVSPLUS_SEQUENCE_HEADER: u32 = 1;
+/// Kind: a sequence end.
+pub const AVSPLUS_SEQUENCE_END: u32 = 2;
+/// Kind: user data.
+pub const AVSPLUS_USER_DATA: u32 = 3;
+/// Kind: an I picture.
+pub const AVSPLUS_I_PICTURE: u32 = 4;
+/// Kind: an extension.
+pub const AVSPLUS_EXTENSION_UNIT: u32 = 5;
+/// Kind: a P or B picture.
+pub const AVSPLUS_PB_PICTURE: u32 = 6;
+/// Kind: an edit code.
+pub const AVSPLUS_EDIT_CODE: u32 = 7;
+/// The code is UNKNOWN.
+pub const AVSPLUS_NO_KIND: u32 = 8;
+
+/// What a call answers.
+#[repr(C)]
+#[derive(Debug, Clone, Copy, PartialEq, Eq)]
+pub struct Answer {
+    /// 0, or the number of a refusal.
+    pub status: u32,
+    /// Of a refused stream, the refusal's offset in it; 0 where the answer has no place.
+    pub place: usize,
+    /// How many units, numbers or bits were handed over; 0 for a refusal and for what is not given.
+    pub count: usize,
+}
+
+/// A part of a stream.
+#[repr(C)]
+#[derive(Debug, Clone, Copy, PartialEq, Eq)]
+pub struct Part {
+    /// Where it begins.
+    pub offset: usize,
+    /// Its bytes.
+    pub length: usize,
+}
+
+/// An Exp-Golomb number.
+#[repr(C)]
+#[derive(Debug, Clone, Copy, PartialEq, Eq)]
+pub struct Golomb {
+    /// 0, or the number of a refusal.
+    pub status: u32,
+    /// [`AVSPLUS_NO_NUMBER`] for a refusal.
+    pub number: u32,
+    /// The place after the number; for a refusal the place that was asked for.
+    pub place: usize,
+}
+
+/// A signed Exp-Golomb number.
+#[repr(C)]
+#[derive(Debug, Clone, Copy, PartialEq, Eq)]
+pub struct SignedNumber {
+    /// 0, or the number of a refusal.
+    pub status: u32,
+    /// [`AVSPLUS_NO_SIGNED_NUMBER`] for a refusal.
+    pub number: i32,
+    /// The place after the number; for a refusal the place that was asked for.
+    pub place: usize,
+}
+
+/// Where a bin decoder stands in its payload.
+#[repr(C)]
+#[derive(Debug, Clone, Copy, PartialEq, Eq)]
+pub struct State {
+    /// rS, at most `vs`.
+    pub rs: u32,
+    /// rT, at most 255.
+    pub rt: u32,
+    /// valueS, at most 524,288.
+    pub vs: u32,
+    /// valueT, at most 255.
+    pub vt: u32,
+    /// The next bit.
+    pub place: usize,
+}
+
+/// What a context has learned of its bins.
+#[repr(C)]
+#[derive(Debug, Clone, Copy, PartialEq, Eq)]
+pub struct Context {
+    /// The more probable bin, 0 or 1.
+    pub mps: u32,
+    /// How probable the other bin is, 4 to 1023.
+    pub lg: u32,
+    /// How fast it learns, 0 to 3.
+    pub cycno: u32,
+}
+
+/// A started state.
+#[repr(C)]
+#[derive(Debug, Clone, Copy, PartialEq, Eq)]
+pub struct Started {
+    /// 0, or the number of a refusal.
+    pub status: u32,
+    /// For a refusal the state that was lent.
+    pub state: State,
+}
+
+/// A bin without a context.
+#[repr(C)]
+#[derive(Debug, Clone, Copy, PartialEq, Eq)]
+pub struct PlainBin {
+    /// 0, or the number of a refusal.
+    pub status: u32,
+    /// [`AVSPLUS_NO_BIN`] for a refusal.
+    pub bin: u32,
+    /// The state after the bin; for a refusal the one that was lent.
+    pub state: State,
+}
+
+/// A bin by one context.
+#[repr(C)]
+#[derive(Debug, Clone, Copy, PartialEq, Eq)]
+pub struct Bin {
+    /// 0, or the number of a refusal.
+    pub status: u32,
+    /// [`AVSPLUS_NO_BIN`] for a refusal.
+    pub bin: u32,
+    /// The state after the bin; for a refusal the one that was lent.
+    pub state: State,
+    /// The context after the bin; for a refusal the one that was lent.
+    pub context: Context,
+}
+
+/// A bin by two contexts.
+#[repr(C)]
+#[derive(Debug, Clone, Copy, PartialEq, Eq)]
+pub struct PairBin {
+    /// 0, or the number of a refusal.
+    pub status: u32,
+    /// [`AVSPLUS_NO_BIN`] for a refusal.
+    pub bin: u32,
+    /// The state after the bin; for a refusal the one that was lent.
+    pub state: State,
+    /// The first context after the bin; for a refusal the one that was lent.
+    pub first: Context,
+    /// The second context after the bin; for a refusal the one that was lent.
+    pub second: Context,
+}
+
+extern "C" {
+    /// Files a stream. Done: `count` is its units, and the first 3 * `count` words of `rows` hold three for each; later words
+    /// stay. FULL where `words` is less.
+    pub fn avsplus_file(stream: *const u8, length: usize, rows: *mut u32, words: usize) -> Answer;
+
+    /// Whether row `i` exists: `rows` holds it, and its body ends within the stream.
+    pub fn avsplus_row_exists(stream: *const u8, length: usize, rows: *const u32, words: usize, i: usize) -> bool;
+
+    /// Where the body of row `i` lies in the stream: offset 0 and length 0 where there is no such row.
+    pub fn avsplus_row_body(stream: *const u8, length: usize, rows: *const u32, words: usize, i: usize) -> Part;
+
+    /// The sequence header of group `g`, counted from 0: [`AVSPLUS_HEADER_NUMBERS`] numbers. The stream's own refusal comes
+    /// first, then NO ROW where it has no such group, then FULL where fewer numbers are lent.
+    pub fn avsplus_group_header(stream: *const u8, length: usize, g: usize, numbers: *mut u64, lent: usize) -> Answer;
+
+    /// The display extension of group `g`: [`AVSPLUS_DISPLAY_NUMBERS`] numbers, or done with count 0 where it is not given.
+    pub fn avsplus_group_display(stream: *const u8, length: usize, g: usize, numbers: *mut u64, lent: usize) -> Answer;
+
+    /// The colour of group `g`'s display extension: [`AVSPLUS_COLOUR_NUMBERS`] numbers, or done with count 0 where it is not
+    /// given.
+    pub fn avsplus_group_colour(stream: *const u8, length: usize, g: usize, numbers: *mut u64, lent: usize) -> Answer;
+
+    /// A sequence header's body: [`AVSPLUS_HEADER_NUMBERS`] numbers. FULL where the body is good and fewer are lent.
+    pub fn avsplus_sequence_header(body: *const u8, length: usize, numbers: *mut u64, lent: usize) -> Answer;
+
+    /// An extension's body, in a group's head or after a picture header: its number, 1 number.
+    pub fn avsplus_extension(body: *const u8, length: usize, in_head: bool, numbers: *mut u64, lent: usize) -> Answer;
+
+    /// The same body as a display extension: [`AVSPLUS_DISPLAY_NUMBERS`] numbers, or done with count 0 where it is good and
+    /// another extension.
+    pub fn avsplus_display(body: *const u8, length: usize, in_head: bool, numbers: *mut u64, lent: usize) -> Answer;
+
+    /// The colour of a display extension: [`AVSPLUS_COLOUR_NUMBERS`] numbers, or done with count 0 where it is not given.
+    pub fn avsplus_display_colour(body: *const u8, length: usize, in_head: bool, numbers: *mut u64, lent: usize) -> Answer;
+
+    /// The same body as a copyright extension: [`AVSPLUS_COPYRIGHT_NUMBERS`] numbers, or done with count 0 where it is good and
+    /// another extension.
+    pub fn avsplus_copyright(body: *const u8, length: usize, in_head: bool, numbers: *mut u64, lent: usize) -> Answer;
+
+    /// The frame rate of a code: [`AVSPLUS_RATIO_NUMBERS`] numbers, or done with count 0 for a code that gives none.
+    pub fn avsplus_frame_rate(code: u32, numbers: *mut u64, lent: usize) -> Answer;
+
+    /// The display ratio of an aspect: [`AVSPLUS_RATIO_NUMBERS`] numbers, or done with count 0 for an aspect that gives none.
+    pub fn avsplus_display_ratio(aspect: u32, numbers: *mut u64, lent: usize) -> Answer;
+
+    /// Removes escape bits. Done: `count` bits, packed into `output`, the last byte filled with zeros; later bytes stay. TOO
+    /// LONG, then FULL where `room` is less than `length`.
+    pub fn avsplus_remove_escapes(raw: *const u8, length: usize, output: *mut u8, room: usize) -> Answer;
+
+    /// The Exp-Golomb number at a bit place of a payload, which is the first `bits` bits of `bytes`, or all where there are
+    /// fewer.
+    pub fn avsplus_unsigned_golomb(bytes: *const u8, length: usize, bits: usize, place: usize) -> Golomb;
+
+    /// The same as a signed number.
+    pub fn avsplus_signed_golomb(bytes: *const u8, length: usize, bits: usize, place: usize) -> SignedNumber;
+
+    /// A fresh context.
+    pub fn avsplus_fresh_context() -> Context;
+
+    /// Starts on a payload. The state that is lent comes back where the payload is refused.
+    pub fn avsplus_start(bytes: *const u8, length: usize, bits: usize, state: State) -> Started;
+
+    /// A bin by one context.
+    pub fn avsplus_decode(bytes: *const u8, length: usize, bits: usize, state: State, context: Context) -> Bin;
+
+    /// A bin by two contexts.
+    pub fn avsplus_decode_pair(
+        bytes: *const u8,
+        length: usize,
+        bits: usize,
+        state: State,
+        first: Context,
+        second: Context,
+    ) -> PairBin;
+
+    /// A bypass bin.
+    pub fn avsplus_bypass(bytes: *const u8, length: usize, bits: usize, state: State) -> PlainBin;
+
+    /// A stuffing bin.
+    pub fn avsplus_stuffing(bytes: *const u8, length: usize, bits: usize, state: State) -> PlainBin;
+
+    /// The first place from `from` on where 00 00 01 stands, or the stream's length.
+    pub fn avsplus_next_start_code(stream: *const u8, length: usize, from: usize) -> usize;
+
+    /// The kind of a unit by its code byte.
+    pub fn avsplus_kind(code: u8) -> u32;
+}

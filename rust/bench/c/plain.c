@@ -1,0 +1,820 @@
+/* Plain C rivals of the library: the same algorithms, and other ones where a name says so. */
+#define _POSIX_C_SOURCE 199309L
+#include <stdbool.h>
+#include <stddef.h>
+#include <stdint.h>
+#include <time.h>
+
+enum {
+    DONE = 0,
+    NO_CODE = 1,
+    CUT = 2,
+    OVERLAP = 3,
+    UNKNOWN = 4,
+    OUT_OF_PLACE = 5,
+    SHORT = 6,
+    MARKER = 7,
+    VALUE = 8,
+    STUFFING = 9,
+    TWICE = 10,
+    UNENDED = 11,
+    FULL = 12,
+    TOO_LONG = 13,
+    PAYLOAD_OUT = 14,
+    BAD_STATE = 15
+};
+
+#define LONGEST_STREAM 16777216u
+#define LONGEST_PAYLOAD 65536u
+
+typedef struct {
+    uint32_t status;
+    size_t place;
+    size_t count;
+} answer;
+
+/* ── time ── */
+
+/* The thread's own time: what other programs take of the machine is not in it. */
+uint64_t plain_nanoseconds(void)
+{
+    struct timespec now;
+    clock_gettime(CLOCK_THREAD_CPUTIME_ID, &now);
+    return (uint64_t)now.tv_sec * 1000000000u + (uint64_t)now.tv_nsec;
+}
+
+/* ── bits ── */
+
+/* The bit at a place, or -1 where there is none. */
+static inline int read_bit(const uint8_t *bytes, size_t length, size_t count, size_t place)
+{
+    if (count <= place)
+        return -1;
+    size_t at = place / 8;
+    if (length <= at)
+        return -1;
+    return bytes[at] >> (7 - place % 8) & 1;
+}
+
+static bool read_bits(const uint8_t *bytes, size_t length, size_t count, size_t place, uint32_t width, uint32_t *value)
+{
+    uint32_t v = 0;
+    for (uint32_t k = 0; k < width; k++) {
+        int bit = read_bit(bytes, length, count, place + k);
+        if (bit < 0)
+            return false;
+        v = v * 2 + (uint32_t)bit;
+    }
+    *value = v;
+    return true;
+}
+
+/* ── start codes ── */
+
+static inline bool prefix_at(const uint8_t *stream, size_t n, size_t at)
+{
+    if (n < 3 || n - 3 < at)
+        return false;
+    return stream[at] == 0 && stream[at + 1] == 0 && stream[at + 2] == 1;
+}
+
+static inline size_t next_prefix(const uint8_t *stream, size_t n, size_t from)
+{
+    for (size_t at = from; at < n; at++)
+        if (prefix_at(stream, n, at))
+            return at;
+    return n;
+}
+
+/* The end is tested once a step, not within the test of a place. */
+static inline size_t next_bytewise(const uint8_t *stream, size_t n, size_t from)
+{
+    if (n < 3)
+        return n;
+    for (size_t at = from; at <= n - 3; at++)
+        if (stream[at] == 0 && stream[at + 1] == 0 && stream[at + 2] == 1)
+            return at;
+    return n;
+}
+
+/* Looks at the third byte of a prefix: one over 1 rules out three places, a 0 one place. */
+static inline size_t next_by_three(const uint8_t *stream, size_t n, size_t from)
+{
+    if (n < 3 || n - 3 < from)
+        return n;
+    size_t at = from + 2;
+    while (at < n) {
+        if (stream[at] > 1)
+            at += 3;
+        else if (stream[at] == 0)
+            at += 1;
+        else if (stream[at - 1] == 0 && stream[at - 2] == 0)
+            return at - 2;
+        else
+            at += 3;
+    }
+    return n;
+}
+
+size_t plain_next(const uint8_t *stream, size_t length, size_t from)
+{
+    return next_prefix(stream, length, from);
+}
+
+size_t plain_next_bytewise(const uint8_t *stream, size_t length, size_t from)
+{
+    return next_bytewise(stream, length, from);
+}
+
+size_t plain_next_by_three(const uint8_t *stream, size_t length, size_t from)
+{
+    return next_by_three(stream, length, from);
+}
+
+/* ── layouts ── */
+
+typedef enum { ANY, SET, ONLY, BUT, WITHIN, WITHIN_BUT } rule;
+
+typedef struct {
+    uint32_t width;
+    rule rule;
+    uint32_t least, greatest, but;
+} field;
+
+typedef struct {
+    size_t fields;
+    size_t least_bytes;
+    const field *field;
+} layout;
+
+static const field HEADER_FIELDS[16] = {
+    {8, ANY, 0, 0, 0},    {8, ANY, 0, 0, 0},    {1, ANY, 0, 0, 0},  {14, BUT, 0, 0, 0},
+    {14, BUT, 0, 0, 0},   {2, WITHIN, 1, 2, 0}, {3, ONLY, 1, 0, 0}, {4, WITHIN, 1, 4, 0},
+    {4, WITHIN, 1, 8, 0}, {18, ANY, 0, 0, 0},   {1, SET, 0, 0, 0},  {12, ANY, 0, 0, 0},
+    {1, ANY, 0, 0, 0},    {1, SET, 0, 0, 0},    {18, ANY, 0, 0, 0}, {3, ANY, 0, 0, 0},
+};
+
+static const field DISPLAY_FIELDS[8] = {
+    {4, ONLY, 2, 0, 0},  {3, ANY, 0, 0, 0}, {1, ANY, 0, 0, 0},  {1, ONLY, 0, 0, 0},
+    {14, ANY, 0, 0, 0}, {1, SET, 0, 0, 0}, {14, ANY, 0, 0, 0}, {2, BUT, 0, 0, 3},
+};
+
+static const field COLOURED_FIELDS[11] = {
+    {4, ONLY, 2, 0, 0}, {3, ANY, 0, 0, 0},         {1, ANY, 0, 0, 0},        {1, ONLY, 1, 0, 0},
+    {8, ANY, 0, 0, 0},  {8, WITHIN_BUT, 1, 10, 3}, {8, WITHIN_BUT, 1, 7, 3}, {14, ANY, 0, 0, 0},
+    {1, SET, 0, 0, 0},  {14, ANY, 0, 0, 0},        {2, BUT, 0, 0, 3},
+};
+
+static const field COPYRIGHT_FIELDS[11] = {
+    {4, ONLY, 4, 0, 0}, {1, ANY, 0, 0, 0},  {8, ANY, 0, 0, 0}, {1, ANY, 0, 0, 0},  {7, ANY, 0, 0, 0},  {1, SET, 0, 0, 0},
+    {20, ANY, 0, 0, 0}, {1, SET, 0, 0, 0}, {22, ANY, 0, 0, 0}, {1, SET, 0, 0, 0}, {22, ANY, 0, 0, 0},
+};
+
+static const layout HEADER = {16, 15, HEADER_FIELDS};
+static const layout DISPLAY = {8, 6, DISPLAY_FIELDS};
+static const layout COLOURED = {11, 9, COLOURED_FIELDS};
+static const layout COPYRIGHT = {11, 12, COPYRIGHT_FIELDS};
+
+static bool allowed(const field *f, uint32_t v)
+{
+    switch (f->rule) {
+    case ANY:
+        return true;
+    case SET:
+        return v == 1;
+    case ONLY:
+        return v == f->least;
+    case BUT:
+        return v != f->but;
+    case WITHIN:
+        return f->least <= v && v <= f->greatest;
+    case WITHIN_BUT:
+        return f->least <= v && v <= f->greatest && v != f->but;
+    }
+    return false;
+}
+
+static bool is_stuffed(const uint8_t *body, size_t length, size_t k)
+{
+    if (body[k] != 128)
+        return false;
+    for (size_t i = k + 1; i < length; i++)
+        if (body[i] != 0)
+            return false;
+    return true;
+}
+
+/* The rules across a copyright extension's fields. */
+static bool owned(const uint32_t values[16])
+{
+    uint64_t number = (uint64_t)values[6] * 17592186044416u + (uint64_t)values[8] * 4194304u + values[10];
+    return values[2] == 0 ? number == 0 : values[1] != 0;
+}
+
+static uint32_t read_values(const layout *l, const uint8_t *body, size_t length, uint32_t values[16])
+{
+    size_t at = 0;
+    for (size_t i = 0; i < l->fields; i++) {
+        uint32_t width = l->field[i].width;
+        if (!read_bits(body, length, at + width, at, width, &values[i]))
+            return SHORT;
+        at += width;
+    }
+    return DONE;
+}
+
+static uint32_t judge_values(const layout *l, const uint32_t values[16])
+{
+    for (size_t i = 0; i < l->fields; i++)
+        if (!allowed(&l->field[i], values[i]))
+            return l->field[i].rule == SET ? MARKER : VALUE;
+    if (l == &COPYRIGHT && !owned(values))
+        return VALUE;
+    return DONE;
+}
+
+/* The values of a body's fields, or its refusal. */
+static uint32_t read_body(const layout *l, const uint8_t *body, size_t length, uint32_t values[16])
+{
+    if (length < l->least_bytes)
+        return SHORT;
+    uint32_t status = read_values(l, body, length, values);
+    if (status == DONE)
+        status = judge_values(l, values);
+    if (status == DONE && !is_stuffed(body, length, l->least_bytes - 1))
+        status = STUFFING;
+    return status;
+}
+
+static bool is_display(const uint8_t *body, size_t length)
+{
+    uint32_t number;
+    return read_bits(body, length, 4, 0, 4, &number) && number == 2;
+}
+
+static bool display_short(const uint8_t *body, size_t length)
+{
+    return length < 6 || (read_bit(body, length, 9, 8) == 1 && length < 9);
+}
+
+static uint32_t read_display(const uint8_t *body, size_t length)
+{
+    uint32_t values[16];
+    if (display_short(body, length))
+        return SHORT;
+    return read_body(read_bit(body, length, 9, 8) == 1 ? &COLOURED : &DISPLAY, body, length, values);
+}
+
+/* An extension's status, and whether it is opaque. */
+static uint32_t read_extension(const uint8_t *body, size_t length, bool in_head, bool *opaque)
+{
+    uint32_t number, values[16];
+    *opaque = false;
+    if (!read_bits(body, length, 4, 0, 4, &number))
+        return SHORT;
+    if (number == 4)
+        return read_body(&COPYRIGHT, body, length, values);
+    if (in_head && number == 2)
+        return read_display(body, length);
+    *opaque = true;
+    return DONE;
+}
+
+/* ── one unit ── */
+
+typedef enum { START, HEAD, PICTURE, SLICES, ENDED, CLOSED } where;
+
+typedef struct {
+    where where;
+    bool display; /* in a head: a display extension was read */
+    bool tested;  /* the slice rule */
+    uint32_t rows;
+    uint32_t least; /* the least code of the next slice */
+} state;
+
+typedef struct {
+    uint32_t status;
+    state next;
+    size_t end;
+    size_t length;
+} unit;
+
+static bool all_zero(const uint8_t *body, size_t length)
+{
+    for (size_t i = 0; i < length; i++)
+        if (body[i] != 0)
+            return false;
+    return true;
+}
+
+static size_t trimmed_length(const uint8_t *body, size_t length)
+{
+    while (0 < length && body[length - 1] == 0)
+        length--;
+    return length;
+}
+
+static uint32_t header_step(state *s, const uint8_t *body, size_t length)
+{
+    uint32_t values[16];
+    uint32_t status = read_body(&HEADER, body, length, values);
+    if (status != DONE)
+        return status;
+    s->where = HEAD;
+    s->display = false;
+    s->tested = values[4] <= 2800;
+    s->rows = (values[4] + 15) / 16;
+    return DONE;
+}
+
+static uint32_t head_extension(state *s, const uint8_t *body, size_t length)
+{
+    bool opaque;
+    if (!is_display(body, length))
+        return read_extension(body, length, true, &opaque);
+    if (display_short(body, length))
+        return SHORT;
+    if (s->display)
+        return TWICE;
+    s->display = true;
+    return read_extension(body, length, true, &opaque);
+}
+
+static uint32_t picture_step(state *s, const uint8_t *body, size_t length)
+{
+    if (all_zero(body, length))
+        return SHORT;
+    s->where = PICTURE;
+    return DONE;
+}
+
+static uint32_t slice_step(state *s, uint32_t least, uint8_t code, const uint8_t *body, size_t length)
+{
+    if (all_zero(body, length))
+        return SHORT;
+    if (s->tested && (code < least || s->rows <= code))
+        return VALUE;
+    s->where = SLICES;
+    s->least = code + 1u;
+    return DONE;
+}
+
+static uint32_t ending_step(state *s, where next, size_t length)
+{
+    if (length != 0)
+        return STUFFING;
+    s->where = next;
+    return DONE;
+}
+
+static uint32_t in_head(state *s, uint8_t code, const uint8_t *body, size_t length)
+{
+    switch (code) {
+    case 0xB2:
+        return DONE;
+    case 0xB5:
+        return head_extension(s, body, length);
+    case 0xB3:
+        return picture_step(s, body, length);
+    default:
+        return OUT_OF_PLACE;
+    }
+}
+
+static uint32_t in_picture(state *s, uint8_t code, const uint8_t *body, size_t length)
+{
+    bool opaque;
+    if (code < 0xB0)
+        return slice_step(s, 0, code, body, length);
+    if (code == 0xB2)
+        return DONE;
+    if (code == 0xB5)
+        return read_extension(body, length, false, &opaque);
+    return OUT_OF_PLACE;
+}
+
+static uint32_t after_slice(state *s, uint8_t code, const uint8_t *body, size_t length)
+{
+    if (code < 0xB0)
+        return slice_step(s, s->least, code, body, length);
+    switch (code) {
+    case 0xB3:
+    case 0xB6:
+        return picture_step(s, body, length);
+    case 0xB0:
+        return header_step(s, body, length);
+    case 0xB1:
+        return ending_step(s, ENDED, length);
+    case 0xB7:
+        return ending_step(s, CLOSED, length);
+    default:
+        return OUT_OF_PLACE;
+    }
+}
+
+static uint32_t step_unit(state *s, uint8_t code, const uint8_t *body, size_t length)
+{
+    if (code == 0xB4 || 0xB8 <= code)
+        return UNKNOWN;
+    switch (s->where) {
+    case START:
+        return code == 0xB0 ? header_step(s, body, length) : OUT_OF_PLACE;
+    case HEAD:
+        return in_head(s, code, body, length);
+    case PICTURE:
+        return in_picture(s, code, body, length);
+    case SLICES:
+        return after_slice(s, code, body, length);
+    case ENDED:
+        return code == 0xB7 ? ending_step(s, CLOSED, length) : OUT_OF_PLACE;
+    case CLOSED:
+        return OUT_OF_PLACE;
+    }
+    return OUT_OF_PLACE;
+}
+
+static size_t row_length(bool in_head, uint8_t code, const uint8_t *body, size_t length)
+{
+    bool opaque;
+    if (code == 0xB2)
+        return length;
+    if (code == 0xB5) {
+        read_extension(body, length, in_head, &opaque);
+        return opaque ? length : trimmed_length(body, length);
+    }
+    return trimmed_length(body, length);
+}
+
+/* ── filing ── */
+
+typedef size_t search(const uint8_t *stream, size_t n, size_t from);
+
+/* Always inlined, so that the search is a direct call and not one by its pointer. */
+#define WITH_SEARCH static inline __attribute__((always_inline))
+
+WITH_SEARCH unit unit_at(search next, const uint8_t *stream, size_t n, state s, size_t at)
+{
+    unit u = {DONE, s, 0, 0};
+    size_t code_at = at + 3;
+    if (!prefix_at(stream, n, at))
+        u.status = NO_CODE;
+    else if (n == code_at)
+        u.status = CUT;
+    else if (prefix_at(stream, n, code_at))
+        u.status = OVERLAP;
+    if (u.status != DONE)
+        return u;
+    u.end = next(stream, n, code_at);
+    const uint8_t *body = stream + at + 4;
+    size_t length = u.end - (at + 4);
+    u.status = step_unit(&u.next, stream[code_at], body, length);
+    if (u.status == DONE)
+        u.length = row_length(s.where == HEAD, stream[code_at], body, length);
+    return u;
+}
+
+WITH_SEARCH answer check_units(search next, const uint8_t *stream, size_t n)
+{
+    if (!prefix_at(stream, n, 0))
+        return (answer){NO_CODE, 0, 0};
+    state s = {START, false, false, 0, 0};
+    size_t at = 0, units = 0;
+    while (at < n) {
+        unit u = unit_at(next, stream, n, s, at);
+        if (u.status != DONE)
+            return (answer){u.status, at, 0};
+        s = u.next;
+        at = u.end;
+        units++;
+    }
+    if (s.where == ENDED || s.where == CLOSED)
+        return (answer){DONE, 0, units};
+    return (answer){UNENDED, at, 0};
+}
+
+WITH_SEARCH void write_rows(search next, const uint8_t *stream, size_t n, uint32_t *rows)
+{
+    state s = {START, false, false, 0, 0};
+    size_t at = 0;
+    while (at < n) {
+        unit u = unit_at(next, stream, n, s, at);
+        if (u.status != DONE)
+            return;
+        rows[0] = stream[at + 3];
+        rows[1] = (uint32_t)at;
+        rows[2] = (uint32_t)u.length;
+        rows += 3;
+        s = u.next;
+        at = u.end;
+    }
+}
+
+WITH_SEARCH answer file(search next, const uint8_t *stream, size_t n, uint32_t *rows, size_t words)
+{
+    if (LONGEST_STREAM < n)
+        return (answer){TOO_LONG, 0, 0};
+    answer a = check_units(next, stream, n);
+    if (a.status != DONE)
+        return a;
+    if (words / 3 < a.count)
+        return (answer){FULL, 0, 0};
+    write_rows(next, stream, n, rows);
+    return a;
+}
+
+answer plain_file(const uint8_t *stream, size_t length, uint32_t *rows, size_t words)
+{
+    return file(next_prefix, stream, length, rows, words);
+}
+
+answer plain_file_by_three(const uint8_t *stream, size_t length, uint32_t *rows, size_t words)
+{
+    return file(next_by_three, stream, length, rows, words);
+}
+
+/* ── escape removal ── */
+
+typedef struct {
+    size_t full;
+    uint32_t value;
+    uint32_t k;
+} packer;
+
+static inline uint32_t kept_width(size_t zeros, uint8_t byte)
+{
+    return 2 <= zeros && byte == 2 ? 6 : 8;
+}
+
+static inline packer push_bits(uint8_t *out, packer p, uint8_t byte, uint32_t width)
+{
+    for (uint32_t j = 0; j < width; j += 2) {
+        p.value = (p.value << 1) + ((uint32_t)byte >> (7 - j) & 1);
+        p.value = (p.value << 1) + ((uint32_t)byte >> (6 - j) & 1);
+        if (p.k == 6) {
+            out[p.full] = (uint8_t)p.value;
+            p.full++;
+            p.value = 0;
+            p.k = 0;
+        } else {
+            p.k += 2;
+        }
+    }
+    return p;
+}
+
+static inline size_t fill_last(uint8_t *out, packer p)
+{
+    if (p.k != 0)
+        out[p.full] = (uint8_t)(p.value << (8 - p.k));
+    return p.full * 8 + p.k;
+}
+
+answer plain_remove_escapes(const uint8_t *raw, size_t length, uint8_t *output, size_t room)
+{
+    if (LONGEST_PAYLOAD < length)
+        return (answer){TOO_LONG, 0, 0};
+    if (room < length)
+        return (answer){FULL, 0, 0};
+    packer p = {0, 0, 0};
+    size_t zeros = 0;
+    for (size_t i = 0; i < length; i++) {
+        p = kept_width(zeros, raw[i]) == 8 ? push_bits(output, p, raw[i], 8) : push_bits(output, p, raw[i], 6);
+        zeros = raw[i] == 0 ? zeros + 1 : 0;
+    }
+    return (answer){DONE, 0, fill_last(output, p)};
+}
+
+/* Each bit is put at its own place of the output. */
+answer plain_remove_escapes_bitwise(const uint8_t *raw, size_t length, uint8_t *output, size_t room)
+{
+    if (LONGEST_PAYLOAD < length)
+        return (answer){TOO_LONG, 0, 0};
+    if (room < length)
+        return (answer){FULL, 0, 0};
+    size_t zeros = 0, bits = 0;
+    for (size_t i = 0; i < length; i++) {
+        uint32_t width = kept_width(zeros, raw[i]);
+        for (uint32_t j = 0; j < width; j++, bits++) {
+            if (bits % 8 == 0)
+                output[bits / 8] = 0;
+            output[bits / 8] |= (uint8_t)((raw[i] >> (7 - j) & 1) << (7 - bits % 8));
+        }
+        zeros = raw[i] == 0 ? zeros + 1 : 0;
+    }
+    return (answer){DONE, 0, bits};
+}
+
+/* Whole bytes: copied while the output is aligned, else shifted in. */
+answer plain_remove_escapes_bytewise(const uint8_t *raw, size_t length, uint8_t *output, size_t room)
+{
+    if (LONGEST_PAYLOAD < length)
+        return (answer){TOO_LONG, 0, 0};
+    if (room < length)
+        return (answer){FULL, 0, 0};
+    packer p = {0, 0, 0};
+    size_t zeros = 0;
+    for (size_t i = 0; i < length; i++) {
+        uint32_t width = kept_width(zeros, raw[i]);
+        zeros = raw[i] == 0 ? zeros + 1 : 0;
+        if (p.k == 0 && width == 8) {
+            output[p.full++] = raw[i];
+            continue;
+        }
+        p.value = p.value << width | raw[i] >> (8 - width);
+        p.k += width;
+        if (8 <= p.k) {
+            p.k -= 8;
+            output[p.full++] = (uint8_t)(p.value >> p.k);
+            p.value &= (1u << p.k) - 1;
+        }
+    }
+    return (answer){DONE, 0, fill_last(output, p)};
+}
+
+/* ── bins ── */
+
+typedef struct {
+    uint32_t rs;
+    uint32_t rt;
+    uint32_t vs;
+    uint32_t vt;
+    size_t place;
+} bin_state;
+
+typedef struct {
+    uint32_t mps;
+    uint32_t lg;
+    uint32_t cycno;
+} context;
+
+typedef struct {
+    uint32_t status;
+    bin_state state;
+} started;
+
+typedef struct {
+    uint32_t status;
+    uint32_t bin;
+    bin_state state;
+    context context;
+} decoded;
+
+typedef struct {
+    const uint8_t *bytes;
+    size_t length;
+    size_t count;
+} payload;
+
+typedef struct {
+    uint32_t s;
+    uint32_t t;
+    uint32_t range;
+} split;
+
+static inline bool good_state(bin_state x, size_t end)
+{
+    return x.rs <= x.vs && x.vs <= 524288 && x.rt <= 255 && x.vt <= 255 && x.place <= end;
+}
+
+static inline bool good_context(context c)
+{
+    return c.mps <= 1 && 4 <= c.lg && c.lg <= 1023 && c.cycno <= 3;
+}
+
+static inline uint32_t guard(payload y, bin_state x, context c)
+{
+    if (LONGEST_PAYLOAD < y.length)
+        return TOO_LONG;
+    size_t all = y.length * 8;
+    if (!good_state(x, y.count < all ? y.count : all))
+        return BAD_STATE;
+    return good_context(c) ? DONE : BAD_STATE;
+}
+
+static inline bool take_bit(payload y, uint32_t *value, size_t *place)
+{
+    int bit = read_bit(y.bytes, y.length, y.count, *place);
+    if (bit < 0)
+        return false;
+    *value = *value * 2 + (uint32_t)bit;
+    *place += 1;
+    return true;
+}
+
+/* The state of a value that is doubled, with the next bits, while it is below 256. */
+static inline uint32_t settle(payload y, uint32_t rt, uint32_t value, size_t place, bin_state *next)
+{
+    uint32_t n = 0;
+    while (value < 256) {
+        if (!take_bit(y, &value, &place))
+            return PAYLOAD_OUT;
+        n++;
+    }
+    *next = (bin_state){0, rt, n, value % 256, place};
+    return DONE;
+}
+
+static inline split split_range(bin_state x, uint32_t q)
+{
+    if (q <= x.rt)
+        return (split){x.rs, x.rt - q, q};
+    return (split){x.rs + 1, 256 + x.rt - q, x.rt + q};
+}
+
+static inline bool misses(bin_state x, split r)
+{
+    return x.vs < r.s || (r.s == x.vs && r.t <= x.vt);
+}
+
+static inline uint32_t unpredicted(payload y, bin_state x, split r, bin_state *next)
+{
+    uint32_t value = x.vt, range = r.range;
+    size_t place = x.place;
+    if (r.s != x.vs) {
+        if (!take_bit(y, &value, &place))
+            return PAYLOAD_OUT;
+        value += 256;
+    }
+    value -= r.t;
+    while (range < 256) {
+        if (!take_bit(y, &value, &place))
+            return PAYLOAD_OUT;
+        range *= 2;
+    }
+    return settle(y, range % 256, value, place, next);
+}
+
+static inline uint32_t rate(uint32_t cycno)
+{
+    return cycno <= 1 ? 3 : cycno == 2 ? 4 : 5;
+}
+
+static inline uint32_t gain(uint32_t w)
+{
+    return w == 3 ? 197 : w == 4 ? 95 : 46;
+}
+
+static inline context updated(context c, uint32_t bin)
+{
+    uint32_t w = rate(c.cycno);
+    if (bin == c.mps) {
+        c.cycno = c.cycno == 0 ? 1 : c.cycno;
+        c.lg = c.lg - (c.lg >> w) - (c.lg >> (w + 2));
+        return c;
+    }
+    c.cycno = c.cycno < 3 ? c.cycno + 1 : 3;
+    c.lg += gain(w);
+    if (1023 < c.lg) {
+        c.lg = 2047 - c.lg;
+        c.mps = 1 - c.mps;
+    }
+    return c;
+}
+
+/* One bin of a state and a context within their ranges; both stay for a refusal. */
+static inline uint32_t step(payload y, bin_state *x, context *c, uint32_t *bin)
+{
+    split r = split_range(*x, c->lg / 4);
+    if (misses(*x, r)) {
+        uint32_t status = unpredicted(y, *x, r, x);
+        if (status != DONE)
+            return status;
+        *bin = 1 - c->mps;
+    } else {
+        x->rs = r.s;
+        x->rt = r.t;
+        *bin = c->mps;
+    }
+    *c = updated(*c, *bin);
+    return DONE;
+}
+
+started plain_start(const uint8_t *bytes, size_t length, size_t bits, bin_state state)
+{
+    started a = {DONE, state};
+    uint32_t value;
+    if (LONGEST_PAYLOAD < length)
+        a.status = TOO_LONG;
+    else if (!read_bits(bytes, length, bits, 0, 9, &value))
+        a.status = PAYLOAD_OUT;
+    else
+        a.status = settle((payload){bytes, length, bits}, 255, value, 9, &a.state);
+    return a;
+}
+
+decoded plain_decode(const uint8_t *bytes, size_t length, size_t bits, bin_state state, context context)
+{
+    payload y = {bytes, length, bits};
+    decoded a = {guard(y, state, context), 2, state, context};
+    if (a.status == DONE)
+        a.status = step(y, &a.state, &a.context, &a.bin);
+    return a;
+}
+
+uint32_t plain_decode_in_place(const uint8_t *bytes, size_t length, size_t bits, bin_state *state, context *context,
+                               uint32_t *bin)
+{
+    payload y = {bytes, length, bits};
+    uint32_t status = guard(y, *state, *context);
+    return status == DONE ? step(y, state, context, bin) : status;
+}

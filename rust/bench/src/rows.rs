@@ -1,0 +1,189 @@
+//! The rows of the table. Each first checks that all rivals answer alike.
+use crate::inputs::{self, Random, Shape};
+use crate::library::{self, Answer};
+use crate::measure::{measure, Measured, Rival, Work, LIBRARY, SAME};
+use crate::{plain_c, plain_rust};
+
+const BY_THREE: &str = "plain C, steps of three";
+const BIT_BY_BIT: &str = "plain C, bit by bit";
+const BYTE_WISE: &str = "plain C, byte-wise";
+const RUST: &str = "plain Rust";
+
+/// How large the inputs are, and how often each rival runs.
+#[derive(Clone, Copy)]
+pub struct Scale {
+    pub stream: usize,
+    pub payload: usize,
+    pub runs: usize,
+    pub repeats: usize,
+}
+
+type File = fn(&[u8], &mut [u32]) -> Answer;
+type Next = fn(&[u8], usize) -> usize;
+type Remove = fn(&[u8], &mut [u8]) -> Answer;
+
+// ── filing ──
+
+const FILE: [(&str, File); 4] = [
+    (LIBRARY, library::file),
+    (SAME, plain_c::file),
+    (BY_THREE, plain_c::file_by_three),
+    (RUST, plain_rust::file),
+];
+
+/// A word that no row has.
+const UNTOUCHED: u32 = u32::MAX;
+
+pub fn filing(row: &'static str, scale: Scale) -> Measured {
+    let stream = inputs::recording(&Shape {
+        length: scale.stream,
+        pictures: 25,
+        slices: 68,
+        slice: (200, 2500),
+    });
+    let words = check_filing(&stream);
+    check_refusals();
+    let rivals = FILE.iter().map(|&(name, file)| {
+        let stream = &stream;
+        let mut rows = vec![UNTOUCHED; words];
+        let run = Box::new(move || file(stream, &mut rows).count as u64);
+        Rival { name, run }
+    });
+    let work = Work {
+        unit: "byte",
+        amount: stream.len(),
+    };
+    measure(row, work, scale.repeats, rivals.collect())
+}
+
+fn filed(file: File, stream: &[u8], words: usize) -> (Answer, Vec<u32>) {
+    let mut rows = vec![UNTOUCHED; words];
+    (file(stream, &mut rows), rows)
+}
+
+/// The words that the recording's rows take.
+fn check_filing(stream: &[u8]) -> usize {
+    let expected = filed(library::file, stream, stream.len());
+    assert_eq!(expected.0.status, 0, "the recording is good");
+    let words = expected.0.count * 3;
+    for (name, file) in FILE {
+        assert!(filed(file, stream, stream.len()) == expected, "{}: other rows", name);
+        assert_eq!(filed(file, stream, words - 1).0.status, 12, "{}: FULL", name);
+    }
+    words
+}
+
+/// Rivals that tested less would be no rivals: each refuses what the library refuses.
+fn check_refusals() {
+    let mut random = Random::new(6);
+    let good = inputs::recording(&Shape {
+        length: 1000,
+        pictures: 2,
+        slices: 3,
+        slice: (1, 9),
+    });
+    for _ in 0..20_000 {
+        let stream = inputs::spoiled(&good, &mut random);
+        let words = random.within(0, 300);
+        let expected = filed(library::file, &stream, words);
+        for (name, file) in FILE {
+            assert!(
+                filed(file, &stream, words) == expected,
+                "{}: otherwise on a spoiled recording",
+                name
+            );
+        }
+    }
+}
+
+// ── start codes ──
+
+const NEXT: [(&str, Next); 5] = [
+    (LIBRARY, library::next_start_code),
+    (SAME, plain_c::next),
+    (BYTE_WISE, plain_c::next_bytewise),
+    (BY_THREE, plain_c::next_by_three),
+    (RUST, plain_rust::next),
+];
+
+pub fn search(row: &'static str, scale: Scale) -> Measured {
+    let stream = inputs::sparse_codes(scale.stream, 65536);
+    for (name, next) in NEXT {
+        assert!(
+            hits(next, &stream) == hits(library::next_start_code, &stream),
+            "{}: other hits",
+            name
+        );
+        assert_eq!(next(&stream, usize::MAX), stream.len(), "{}: past the end", name);
+    }
+    let rivals = NEXT.iter().map(|&(name, next)| {
+        let stream = &stream;
+        let run = Box::new(move || hits(next, stream).iter().map(|&at| at as u64).sum());
+        Rival { name, run }
+    });
+    let work = Work {
+        unit: "byte",
+        amount: stream.len(),
+    };
+    measure(row, work, scale.repeats, rivals.collect())
+}
+
+fn hits(next: Next, stream: &[u8]) -> Vec<usize> {
+    let mut all = Vec::new();
+    let mut at = next(stream, 0);
+    while at < stream.len() {
+        all.push(at);
+        at = next(stream, at + 1);
+    }
+    all
+}
+
+// ── escape removal ──
+
+const REMOVE: [(&str, Remove); 5] = [
+    (LIBRARY, library::remove_escapes),
+    (SAME, plain_c::remove_escapes),
+    (BIT_BY_BIT, plain_c::remove_escapes_bitwise),
+    (BYTE_WISE, plain_c::remove_escapes_bytewise),
+    (RUST, plain_rust::remove_escapes),
+];
+
+pub fn escapes_rich(row: &'static str, scale: Scale) -> Measured {
+    escapes(row, scale, &inputs::with_escapes(scale.payload, 6))
+}
+
+/// As in recordings: between escapes the output stays off the byte borders for long.
+pub fn escapes_sparse(row: &'static str, scale: Scale) -> Measured {
+    escapes(row, scale, &inputs::with_escapes(scale.payload, 1000))
+}
+
+pub fn escapes_random(row: &'static str, scale: Scale) -> Measured {
+    escapes(row, scale, &inputs::random_bytes(scale.payload))
+}
+
+fn escapes(row: &'static str, scale: Scale, raw: &[u8]) -> Measured {
+    check_escapes(raw);
+    let rivals = REMOVE.iter().map(|&(name, remove)| {
+        let mut output = vec![0; raw.len()];
+        let run = Box::new(move || (0..scale.runs).map(|_| remove(raw, &mut output).count as u64).sum());
+        Rival { name, run }
+    });
+    let work = Work {
+        unit: "byte",
+        amount: raw.len() * scale.runs,
+    };
+    measure(row, work, scale.repeats, rivals.collect())
+}
+
+fn check_escapes(raw: &[u8]) {
+    for length in (0..64).chain([raw.len()]) {
+        let raw = &raw[..length];
+        let mut expected = vec![0xAA; length + 1];
+        let answer = library::remove_escapes(raw, &mut expected);
+        for (name, remove) in REMOVE {
+            let mut output = vec![0xAA; length + 1];
+            assert_eq!(remove(raw, &mut output), answer, "{}: another answer", name);
+            assert!(output == expected, "{}: another output", name);
+        }
+    }
+}

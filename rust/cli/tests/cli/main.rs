@@ -1,0 +1,7 @@
+//! Runs the program on the worked examples of the specification.
+
+mod json_reader;
+mod payloads;
+mod recordings;
+mod support;
+mod usage;

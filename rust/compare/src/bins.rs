@@ -1,0 +1,183 @@
+//! Bins: runs from a start on, and single steps from any state.
+
+use avsplus::raw::{Context, State, AVSPLUS_DONE, AVSPLUS_LONGEST_PAYLOAD};
+use independent::generate::{bins_payload, context, state, Random};
+
+use crate::comparison::{alone, Comparison};
+use crate::decoder::{Decoder, PlainBinOf};
+use crate::inputs::bit_count;
+use crate::reference::{to_context, to_state};
+use crate::report::Question;
+
+const MOST_CONTEXTS: u64 = 20;
+/// Bins of a run; most payloads are out before.
+const LONGEST_RUN: u64 = 400;
+
+/// The largest valueS.
+const MOST_S: u32 = 524_288;
+const LONGEST: usize = AVSPLUS_LONGEST_PAYLOAD as usize;
+
+/// A payload, and where a run stands in it.
+#[derive(Clone)]
+struct Run<'a> {
+    bytes: &'a [u8],
+    bits: usize,
+    state: State,
+}
+
+/// A way to a bin.
+#[derive(Clone, Copy)]
+enum Way {
+    One(usize),
+    Pair(usize, usize),
+    Bypass,
+    Stuffing,
+}
+
+pub(crate) fn runs(comparison: &mut Comparison, random: &mut Random, count: u64) {
+    for _ in 0..count {
+        comparison.input(bins_payload(random), |comparison, bytes| run(comparison, random, bytes));
+    }
+}
+
+fn run(comparison: &mut Comparison, random: &mut Random, bytes: &[u8]) {
+    let bits = bit_count(random, bytes);
+    let state = to_state(state(random, bits as u64));
+    let mut run = Run { bytes, bits, state };
+    if start(comparison, &mut run) != AVSPLUS_DONE {
+        return;
+    }
+    let fresh = comparison.ask(Question::FreshContext, &alone, |decoder| (decoder.fresh_context)());
+    let mut contexts = vec![fresh; random.between(1, MOST_CONTEXTS) as usize];
+    let mix = random.below(6);
+    for _ in 0..random.between(1, LONGEST_RUN) {
+        let way = way(random, mix, contexts.len());
+        if step(comparison, &mut run, &mut contexts, way) != AVSPLUS_DONE {
+            return;
+        }
+    }
+}
+
+/// One way all along for the first mixes, any for the others.
+fn way(random: &mut Random, mix: u64, contexts: usize) -> Way {
+    let first = random.index(contexts);
+    // Another context, where there is one.
+    let second = (first + 1 + random.index(contexts.saturating_sub(1))) % contexts;
+    let which = if mix < 4 { mix } else { random.below(4) };
+    match which {
+        0 => Way::One(first),
+        1 => Way::Pair(first, second),
+        2 => Way::Bypass,
+        _ => Way::Stuffing,
+    }
+}
+
+fn start(comparison: &mut Comparison, run: &mut Run) -> u32 {
+    let Run { bytes, bits, state } = *run;
+    let with = || format!("{} bits, {:?}", bits, state);
+    let started = comparison.ask(Question::Start, &with, |decoder| (decoder.start)(bytes, bits, state));
+    run.state = started.state;
+    started.status
+}
+
+/// Answers the status; a refusal leaves all as it was.
+fn step(comparison: &mut Comparison, run: &mut Run, contexts: &mut [Context], way: Way) -> u32 {
+    match way {
+        Way::One(i) => one(comparison, run, &mut contexts[i]),
+        Way::Pair(i, j) => {
+            let mut both = [contexts[i], contexts[j]];
+            let status = pair(comparison, run, &mut both);
+            contexts[i] = both[0];
+            contexts[j] = both[1];
+            status
+        }
+        Way::Bypass => plain(comparison, run, Question::Bypass, |decoder| decoder.bypass),
+        Way::Stuffing => plain(comparison, run, Question::Stuffing, |decoder| decoder.stuffing),
+    }
+}
+
+fn one(comparison: &mut Comparison, run: &mut Run, context: &mut Context) -> u32 {
+    let Run { bytes, bits, state } = *run;
+    let before = *context;
+    let with = || format!("{} bits, {:?}, {:?}", bits, state, before);
+    let bin = comparison.ask(Question::Decode, &with, |decoder| {
+        (decoder.decode)(bytes, bits, state, before)
+    });
+    run.state = bin.state;
+    *context = bin.context;
+    bin.status
+}
+
+fn pair(comparison: &mut Comparison, run: &mut Run, contexts: &mut [Context; 2]) -> u32 {
+    let Run { bytes, bits, state } = *run;
+    let [first, second] = *contexts;
+    let with = || format!("{} bits, {:?}, {:?}, {:?}", bits, state, first, second);
+    let bin = comparison.ask(Question::DecodePair, &with, |decoder| {
+        (decoder.decode_pair)(bytes, bits, state, first, second)
+    });
+    run.state = bin.state;
+    *contexts = [bin.first, bin.second];
+    bin.status
+}
+
+fn plain(comparison: &mut Comparison, run: &mut Run, question: Question, of: fn(&Decoder) -> PlainBinOf) -> u32 {
+    let Run { bytes, bits, state } = *run;
+    let with = || format!("{} bits, {:?}", bits, state);
+    let bin = comparison.ask(question, &with, |decoder| of(decoder)(bytes, bits, state));
+    run.state = bin.state;
+    bin.status
+}
+
+/// Single steps from states and contexts that may be out of their ranges.
+pub(crate) fn single_steps(comparison: &mut Comparison, random: &mut Random, count: u64) {
+    for _ in 0..count {
+        comparison.input(bins_payload(random), |comparison, bytes| {
+            let bits = bit_count(random, bytes);
+            let held = bits.min(8 * bytes.len());
+            let state = to_state(state(random, held as u64));
+            let contexts = [to_context(context(random)), to_context(context(random))];
+            each_step(comparison, &Run { bytes, bits, state }, contexts);
+        });
+    }
+}
+
+/// One step of each kind from the same state, and a start.
+fn each_step(comparison: &mut Comparison, from: &Run, contexts: [Context; 2]) {
+    for way in [Way::One(0), Way::Pair(0, 1), Way::Bypass, Way::Stuffing] {
+        step(comparison, &mut from.clone(), &mut contexts.clone(), way);
+    }
+    start(comparison, &mut from.clone());
+}
+
+/// Payloads at the limit and one byte over: zeros that keep a start doubling to their very end, and states at the limits.
+pub(crate) fn longest(comparison: &mut Comparison, random: &mut Random) {
+    for length in [LONGEST, LONGEST + 1] {
+        for last in [0, 1, 0xFF] {
+            let mut bytes = vec![0; length];
+            bytes[length - 1] = last;
+            comparison.input(bytes, |comparison, bytes| {
+                run(comparison, random, bytes);
+                let bits = 8 * bytes.len();
+                let contexts = [to_context(independent::fresh()); 2];
+                for state in limits(bits) {
+                    each_step(comparison, &Run { bytes, bits, state }, contexts);
+                }
+            });
+        }
+    }
+}
+
+/// The largest state of a payload, and those one over in the place, in valueS and in rS.
+fn limits(bits: usize) -> [State; 4] {
+    let most = State {
+        rs: MOST_S,
+        rt: 255,
+        vs: MOST_S,
+        vt: 255,
+        place: bits,
+    };
+    let past = State { place: bits + 1, ..most };
+    let vs = State { vs: MOST_S + 1, ..most };
+    let rs = State { rs: MOST_S + 1, ..most };
+    [most, past, vs, rs]
+}

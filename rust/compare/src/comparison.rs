@@ -1,0 +1,242 @@
+//! Asking: every question goes to the independent decoder and to the library, and now and then to the safe crate.
+
+use std::fmt::Debug;
+
+use avsplus::raw::{
+    Answer, Bin, Context, Golomb, PairBin, Part, PlainBin, SignedNumber, Started, AVSPLUS_DONE, AVSPLUS_NO_KIND,
+    AVSPLUS_NO_ROW, AVSPLUS_UNKNOWN,
+};
+
+use crate::decoder::Decoder;
+use crate::report::{Difference, Question, Report};
+
+/// Bytes of an input that a difference shows.
+const SHOWN_BYTES: usize = 200;
+/// Words of lent memory that a difference shows, from the first that differs on.
+const SHOWN_WORDS: usize = 16;
+/// Words before and after what is lent: nothing may be written there.
+const GUARD: usize = 4;
+/// One input in so many goes to each wrapper; prime to the alphabets' sizes, so that all letters come by.
+const WRAPPED_SHARE: u64 = 5;
+
+/// What a question is answered with.
+pub(crate) trait Answered: PartialEq + Debug {
+    fn status(&self) -> u32 {
+        AVSPLUS_DONE
+    }
+
+    /// The answer in words, where it differs from another.
+    fn show(&self, _other: &Self) -> String {
+        format!("{:?}", self)
+    }
+}
+
+macro_rules! answered_with_status {
+    ($($answer:ty),*) => {
+        $(impl Answered for $answer {
+            fn status(&self) -> u32 {
+                self.status
+            }
+        })*
+    };
+}
+
+answered_with_status!(Answer, Golomb, SignedNumber, Started, PlainBin, Bin, PairBin);
+
+impl Answered for Context {}
+
+/// A place in a stream.
+impl Answered for usize {}
+
+/// A kind.
+impl Answered for u32 {
+    fn status(&self) -> u32 {
+        match *self {
+            AVSPLUS_NO_KIND => AVSPLUS_UNKNOWN,
+            _ => AVSPLUS_DONE,
+        }
+    }
+}
+
+/// Whether a row exists, and where its body lies.
+impl Answered for (bool, Part) {
+    fn status(&self) -> u32 {
+        if self.0 {
+            AVSPLUS_DONE
+        } else {
+            AVSPLUS_NO_ROW
+        }
+    }
+}
+
+/// An answer with the memory that was lent for it, and the guard words around.
+#[derive(Debug, PartialEq)]
+pub(crate) struct Lent<T> {
+    pub answer: Answer,
+    memory: Vec<T>,
+}
+
+impl<T: Pattern> Lent<T> {
+    /// The memory that was lent, without the guard words.
+    pub fn words(&self) -> &[T] {
+        &self.memory[GUARD..self.memory.len() - GUARD]
+    }
+}
+
+impl<T: Pattern> Answered for Lent<T> {
+    fn status(&self) -> u32 {
+        self.answer.status
+    }
+
+    fn show(&self, other: &Self) -> String {
+        let same = self.memory.iter().zip(&other.memory).take_while(|(a, b)| a == b).count();
+        if same == self.memory.len() {
+            return format!("{:?}, lent memory alike", self.answer);
+        }
+        let words: Vec<&T> = self.memory.iter().skip(same).take(SHOWN_WORDS).collect();
+        let first = same as i64 - GUARD as i64;
+        format!("{:?}, lent memory from word {} on {:X?}", self.answer, first, words)
+    }
+}
+
+/// Something that lent memory is made of.
+pub(crate) trait Pattern: Copy + PartialEq + Debug {
+    /// What stands in word `i` before a call: different from word to word, so that a shift shows.
+    fn before(i: usize) -> Self;
+}
+
+impl Pattern for u8 {
+    fn before(i: usize) -> u8 {
+        0x5A ^ (i as u8).wrapping_mul(37)
+    }
+}
+
+impl Pattern for u32 {
+    fn before(i: usize) -> u32 {
+        0xA5A5_0000 ^ i as u32
+    }
+}
+
+impl Pattern for u64 {
+    fn before(i: usize) -> u64 {
+        0xA5A5_5A5A_C3C3_0000 ^ i as u64
+    }
+}
+
+/// Lends `room` words filled with the pattern to a call.
+pub(crate) fn lend<T: Pattern>(room: usize, call: impl Fn(&mut [T]) -> Answer) -> Lent<T> {
+    let mut memory: Vec<T> = (0..GUARD + room + GUARD).map(T::before).collect();
+    let answer = call(&mut memory[GUARD..GUARD + room]);
+    Lent { answer, memory }
+}
+
+/// Exactly enough for `wanted` words, one too few, and some over.
+pub(crate) fn rooms(wanted: usize) -> [usize; 3] {
+    [wanted, wanted.saturating_sub(1), wanted + 3]
+}
+
+/// What a question comes with beside the input, in words; made only for a difference.
+pub(crate) type With<'a> = &'a dyn Fn() -> String;
+
+/// Nothing beside the input.
+pub(crate) fn alone() -> String {
+    "the input alone".to_string()
+}
+
+/// Who is asked.
+#[derive(Clone, Copy)]
+pub struct Decoders<'a> {
+    pub reference: &'a Decoder,
+    pub library: &'a Decoder,
+    /// Asked for a share of the inputs each.
+    pub wrappers: [&'a Decoder; 2],
+}
+
+/// A comparison under way.
+pub(crate) struct Comparison<'a> {
+    decoders: Decoders<'a>,
+    report: Report,
+}
+
+/// A part of an input in hexadecimal.
+fn hexadecimal(bytes: &[u8]) -> String {
+    let shown: Vec<String> = bytes.iter().take(SHOWN_BYTES).map(|byte| format!("{:02X}", byte)).collect();
+    let rest = if bytes.len() > SHOWN_BYTES { " .." } else { "" };
+    format!("{} bytes: {}{}", bytes.len(), shown.join(" "), rest)
+}
+
+impl<'a> Comparison<'a> {
+    pub fn new(decoders: Decoders<'a>) -> Self {
+        Comparison {
+            decoders,
+            report: Report::new(),
+        }
+    }
+
+    pub fn finish(self) -> Report {
+        self.report
+    }
+
+    /// Asks questions about one input, and looks whether it has stayed as it was.
+    pub fn input(&mut self, bytes: Vec<u8>, questions: impl FnOnce(&mut Self, &[u8])) {
+        // Without spare room a read past the end can be seen by a memory checker.
+        let lent = bytes.into_boxed_slice();
+        let kept = lent.clone();
+        self.report.inputs += 1;
+        let before = self.report.differences;
+        questions(self, &lent);
+        if lent != kept {
+            self.report.difference(|| Difference {
+                what: "the input was written to".to_string(),
+                sides: [("before", hexadecimal(&kept)), ("after", hexadecimal(&lent))],
+            });
+        }
+        if self.report.differences > before {
+            self.report.name_input(before, &hexadecimal(&kept));
+        }
+    }
+
+    /// Asks all decoders; answers what the independent one does.
+    pub fn ask<T: Answered>(&mut self, question: Question, with: With, call: impl Fn(&Decoder) -> T) -> T {
+        let Decoders {
+            reference,
+            library,
+            wrappers,
+        } = self.decoders;
+        let expected = call(reference);
+        self.report.met(question, expected.status());
+        let turn = (self.report.inputs % WRAPPED_SHARE) as usize;
+        for decoder in [Some(library), wrappers.get(turn).copied()].into_iter().flatten() {
+            let answered = call(decoder);
+            if answered != expected {
+                self.report.difference(|| Difference {
+                    what: format!("{}, {}", question.name(), with()),
+                    sides: [
+                        (reference.name, expected.show(&answered)),
+                        (decoder.name, answered.show(&expected)),
+                    ],
+                });
+            }
+        }
+        expected
+    }
+
+    /// Asks for `wanted` numbers with enough, too few and too many lent; answers the status with enough.
+    pub fn numbers(
+        &mut self,
+        question: Question,
+        with: With,
+        wanted: usize,
+        call: impl Fn(&Decoder, &mut [u64]) -> Answer,
+    ) -> u32 {
+        let statuses = rooms(wanted).map(|room| {
+            let with = || format!("{}, {} numbers lent", with(), room);
+            let lent = self.ask(question, &with, |decoder| lend(room, |numbers| call(decoder, numbers)));
+            if lent.answer.status == AVSPLUS_DONE && lent.answer.count == 0 {
+                self.report.not_given(question);
+            }
+            lent.answer.status
+        });
+        statuses[0]
+    }
+}

@@ -1,0 +1,96 @@
+//! A decoder: for each question a function, with what it answers and what it writes into lent memory as the C interface has it.
+
+use avsplus::raw::{
+    Answer, Bin, Context, Golomb, PairBin, Part, PlainBin, SignedNumber, Started, State, AVSPLUS_DONE, AVSPLUS_FULL,
+    AVSPLUS_NO_BIN, AVSPLUS_NO_NUMBER, AVSPLUS_NO_SIGNED_NUMBER,
+};
+
+/// Numbers of a stream's group, counted from 0.
+pub type GroupNumbers = fn(&[u8], usize, &mut [u64]) -> Answer;
+/// Numbers of a body, in a group's head or after a picture header.
+pub type BodyNumbers = fn(&[u8], bool, &mut [u64]) -> Answer;
+/// Numbers of a code.
+pub type CodeNumbers = fn(u32, &mut [u64]) -> Answer;
+/// A bin without a context: bytes, bits and state.
+pub type PlainBinOf = fn(&[u8], usize, State) -> PlainBin;
+
+/// Plain functions, so that a test can put another one in the place of any.
+#[derive(Clone, Copy)]
+pub struct Decoder {
+    pub name: &'static str,
+    pub file: fn(&[u8], &mut [u32]) -> Answer,
+    pub row_exists: fn(&[u8], &[u32], usize) -> bool,
+    pub row_body: fn(&[u8], &[u32], usize) -> Part,
+    pub group_header: GroupNumbers,
+    pub group_display: GroupNumbers,
+    pub group_colour: GroupNumbers,
+    pub sequence_header: fn(&[u8], &mut [u64]) -> Answer,
+    pub extension: BodyNumbers,
+    pub display: BodyNumbers,
+    pub display_colour: BodyNumbers,
+    pub copyright: BodyNumbers,
+    pub frame_rate: CodeNumbers,
+    pub display_ratio: CodeNumbers,
+    pub remove_escapes: fn(&[u8], &mut [u8]) -> Answer,
+    pub unsigned_golomb: fn(&[u8], usize, usize) -> Golomb,
+    pub signed_golomb: fn(&[u8], usize, usize) -> SignedNumber,
+    pub fresh_context: fn() -> Context,
+    pub start: fn(&[u8], usize, State) -> Started,
+    pub decode: fn(&[u8], usize, State, Context) -> Bin,
+    pub decode_pair: fn(&[u8], usize, State, Context, Context) -> PairBin,
+    pub bypass: PlainBinOf,
+    pub stuffing: PlainBinOf,
+    pub next_start_code: fn(&[u8], usize) -> usize,
+    pub kind: fn(u8) -> u32,
+}
+
+/// A good answer.
+pub(crate) fn done(count: usize) -> Answer {
+    Answer {
+        status: AVSPLUS_DONE,
+        place: 0,
+        count,
+    }
+}
+
+/// A refusal.
+pub(crate) fn refused(status: u32, place: usize) -> Answer {
+    Answer { status, place, count: 0 }
+}
+
+/// Hands words over into lent memory: FULL where fewer are lent; no words stand for something not given.
+pub(crate) fn hand_over<T: Copy>(words: &[T], lent: &mut [T]) -> Answer {
+    match lent.get_mut(..words.len()) {
+        Some(part) => {
+            part.copy_from_slice(words);
+            done(words.len())
+        }
+        None => refused(AVSPLUS_FULL, 0),
+    }
+}
+
+/// The answer for an Exp-Golomb number read, or not, at a place.
+pub(crate) fn golomb(read: Result<(u32, usize), u32>, place: usize) -> Golomb {
+    let (status, (number, place)) = match read {
+        Ok(read) => (AVSPLUS_DONE, read),
+        Err(status) => (status, (AVSPLUS_NO_NUMBER, place)),
+    };
+    Golomb { status, number, place }
+}
+
+/// The same for a signed number.
+pub(crate) fn signed_number(read: Result<(i32, usize), u32>, place: usize) -> SignedNumber {
+    let (status, (number, place)) = match read {
+        Ok(read) => (AVSPLUS_DONE, read),
+        Err(status) => (status, (AVSPLUS_NO_SIGNED_NUMBER, place)),
+    };
+    SignedNumber { status, number, place }
+}
+
+/// Status and bin of a bin that was decoded or refused.
+pub(crate) fn bin(decoded: Result<u32, u32>) -> (u32, u32) {
+    match decoded {
+        Ok(bin) => (AVSPLUS_DONE, bin),
+        Err(status) => (status, AVSPLUS_NO_BIN),
+    }
+}

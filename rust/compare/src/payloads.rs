@@ -1,0 +1,116 @@
+//! Start codes, escape bits and Exp-Golomb numbers.
+
+use avsplus::raw::AVSPLUS_LONGEST_PAYLOAD;
+use independent::generate::{payload, Random};
+
+use crate::comparison::{lend, rooms, Comparison};
+use crate::inputs::{all_strings, bit_count, letters, pick};
+use crate::report::Question;
+
+const LONGEST: usize = AVSPLUS_LONGEST_PAYLOAD as usize;
+
+/// All strings of what start codes are made of.
+pub(crate) fn all_start_codes(comparison: &mut Comparison, longest: usize) {
+    all_strings(&[0, 1, 2], longest).for_each(|bytes| comparison.input(bytes, start_code_questions));
+}
+
+pub(crate) fn start_codes(comparison: &mut Comparison, random: &mut Random, count: u64) {
+    for _ in 0..count {
+        let length = pick(random, &[9, 16, 40, 300]);
+        let length = random.index(length);
+        let alphabet = pick(random, &[&[0_u8, 1, 2][..], &[0, 0, 0, 0, 1, 0xFF]]);
+        comparison.input(letters(random, length, alphabet), start_code_questions);
+    }
+}
+
+/// From every place, and from places past the end.
+fn start_code_questions(comparison: &mut Comparison, bytes: &[u8]) {
+    for from in (0..=bytes.len() + 2).chain([usize::MAX - 2, usize::MAX]) {
+        let with = || format!("from {}", from);
+        comparison.ask(Question::NextStartCode, &with, |decoder| {
+            (decoder.next_start_code)(bytes, from)
+        });
+    }
+}
+
+/// All strings of what escape bits turn on.
+pub(crate) fn all_escapes(comparison: &mut Comparison, longest: usize) {
+    all_strings(&[0, 2, 3, 0xFF], longest).for_each(|bytes| comparison.input(bytes, escape_questions));
+}
+
+pub(crate) fn escapes(comparison: &mut Comparison, random: &mut Random, count: u64) {
+    for _ in 0..count {
+        comparison.input(payload(random), escape_questions);
+    }
+}
+
+fn escape_questions(comparison: &mut Comparison, bytes: &[u8]) {
+    for room in rooms(bytes.len()) {
+        let with = || format!("{} bytes lent", room);
+        comparison.ask(Question::RemoveEscapes, &with, |decoder| {
+            lend(room, |output| (decoder.remove_escapes)(bytes, output))
+        });
+    }
+}
+
+/// Every payload of two bytes whose number a step divides, from its first bit on.
+pub(crate) fn two_byte_golomb(comparison: &mut Comparison, step: usize) {
+    for number in (0..=u16::MAX).step_by(step) {
+        comparison.input(number.to_be_bytes().to_vec(), |comparison, bytes| {
+            golomb(comparison, bytes, 16, 0)
+        });
+    }
+}
+
+/// Payloads of any bytes, and of few ones between long runs of zeros.
+pub(crate) fn generated_golomb(comparison: &mut Comparison, random: &mut Random, count: u64) {
+    for i in 0..count {
+        let bytes = if i % 3 == 0 { payload(random) } else { zeros_and_ones(random) };
+        comparison.input(bytes, |comparison, bytes| golomb_questions(comparison, random, bytes));
+    }
+}
+
+fn zeros_and_ones(random: &mut Random) -> Vec<u8> {
+    let length = random.index(20);
+    letters(random, length, &[0, 0, 0, 0, 0, 0, 1, 2, 0x10, 0x80, 0xFF])
+}
+
+fn golomb(comparison: &mut Comparison, bytes: &[u8], bits: usize, place: usize) {
+    let with = || format!("{} bits, place {}", bits, place);
+    comparison.ask(Question::UnsignedGolomb, &with, |decoder| {
+        (decoder.unsigned_golomb)(bytes, bits, place)
+    });
+    comparison.ask(Question::SignedGolomb, &with, |decoder| {
+        (decoder.signed_golomb)(bytes, bits, place)
+    });
+}
+
+/// Places anywhere, at the end, past it and far off.
+fn golomb_questions(comparison: &mut Comparison, random: &mut Random, bytes: &[u8]) {
+    let bits = bit_count(random, bytes);
+    let end = bits.min(8 * bytes.len());
+    let before_end = end.saturating_sub(random.index(70));
+    for place in [0, random.index(end + 1), before_end, end, end + 1, usize::MAX] {
+        golomb(comparison, bytes, bits, place);
+    }
+}
+
+/// Payloads at the limit and one byte over, with their last number at their very end.
+pub(crate) fn longest(comparison: &mut Comparison, random: &mut Random) {
+    for length in [LONGEST, LONGEST + 1] {
+        for end in [
+            &[0, 0, 2, 1, 0xFF, 0xFF, 0xFF, 0xFF][..],
+            &[0, 0, 0, 1, 0, 0, 0],
+            &[0x80],
+            &[0; 5],
+        ] {
+            let mut bytes = vec![random.byte(); length - end.len()];
+            bytes.extend(end);
+            comparison.input(bytes, |comparison, bytes| {
+                golomb_questions(comparison, random, bytes);
+                golomb(comparison, bytes, usize::MAX, 8 * (length - end.len()));
+                escape_questions(comparison, bytes);
+            });
+        }
+    }
+}

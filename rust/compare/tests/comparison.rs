@@ -1,0 +1,240 @@
+//! The comparison with few inputs, and the comparison itself: an answer altered on purpose has to be found.
+
+use avsplus::raw::{Answer, Bin, Context, Golomb, PairBin, Part, SignedNumber, Started, State};
+use compare::{run, Decoder, Decoders, Plan, Report, DECODERS, LIBRARY, REFERENCE};
+
+fn small(decoders: Decoders<'_>, seed: u64) -> Report {
+    let plan = Plan {
+        seed,
+        count: 1500,
+        small: true,
+    };
+    run(&plan, decoders)
+}
+
+#[test]
+fn library_and_independent_decoder_agree() {
+    for seed in 100..103 {
+        let report = small(DECODERS, seed);
+        assert_eq!(report.differences, 0, "{}", report);
+        assert!(report.inputs > 2000, "{}", report.inputs);
+    }
+}
+
+#[test]
+fn a_decoder_agrees_with_itself_and_all_answers_are_met() {
+    let decoders = Decoders {
+        library: &REFERENCE,
+        wrappers: [&REFERENCE; 2],
+        ..DECODERS
+    };
+    let report = small(decoders, 1);
+    assert_eq!(report.differences, 0, "{}", report);
+    let missed: Vec<u32> = (0..=16).filter(|&status| report.times(status) == 0).collect();
+    assert!(missed.is_empty(), "{:?}\n{}", missed, report);
+}
+
+/// The first word of the last row is another.
+fn last_row(stream: &[u8], rows: &mut [u32]) -> Answer {
+    let answer = (LIBRARY.file)(stream, rows);
+    if answer.count > 0 {
+        rows[3 * answer.count - 3] ^= 1;
+    }
+    answer
+}
+
+/// The word after the last row is written to.
+fn word_after_rows(stream: &[u8], rows: &mut [u32]) -> Answer {
+    let answer = (LIBRARY.file)(stream, rows);
+    match rows.get_mut(3 * answer.count) {
+        Some(word) if answer.status == 0 => *word = 0,
+        _ => (),
+    }
+    answer
+}
+
+/// Rows are written to before a refusal.
+fn refusal_writes(stream: &[u8], rows: &mut [u32]) -> Answer {
+    let answer = (LIBRARY.file)(stream, rows);
+    match rows.last_mut() {
+        Some(word) if answer.status == 11 => *word = 0,
+        _ => (),
+    }
+    answer
+}
+
+/// One refusal has another's number.
+fn other_refusal(stream: &[u8], rows: &mut [u32]) -> Answer {
+    let answer = (LIBRARY.file)(stream, rows);
+    let status = if answer.status == 10 { 8 } else { answer.status };
+    Answer { status, ..answer }
+}
+
+/// UNENDED one byte too early.
+fn other_place(stream: &[u8], rows: &mut [u32]) -> Answer {
+    let answer = (LIBRARY.file)(stream, rows);
+    let place = answer.place - usize::from(answer.status == 11);
+    Answer { place, ..answer }
+}
+
+/// A body that ends exactly at the stream's end is no row.
+fn row_before_end(stream: &[u8], rows: &[u32], i: usize) -> bool {
+    let Part { offset, length } = (LIBRARY.row_body)(stream, rows, i);
+    (LIBRARY.row_exists)(stream, rows, i) && offset + length < stream.len()
+}
+
+/// A body begins one byte too early.
+fn body_with_code(stream: &[u8], rows: &[u32], i: usize) -> Part {
+    let part = (LIBRARY.row_body)(stream, rows, i);
+    let offset = part.offset.saturating_sub(1);
+    Part { offset, ..part }
+}
+
+/// Not given becomes given with zeros.
+fn colour_of_zeros(stream: &[u8], g: usize, numbers: &mut [u64]) -> Answer {
+    let answer = (LIBRARY.group_colour)(stream, g, numbers);
+    if answer.status == 0 && answer.count == 0 && numbers.len() == 3 {
+        numbers.fill(0);
+        return Answer { count: 3, ..answer };
+    }
+    answer
+}
+
+/// The bits after the last are ones.
+fn ones_after_last_bit(payload: &[u8], output: &mut [u8]) -> Answer {
+    let answer = (LIBRARY.remove_escapes)(payload, output);
+    let used = answer.count % 8;
+    if used > 0 {
+        output[answer.count / 8] |= 0xFF >> used;
+    }
+    answer
+}
+
+/// A refusal carries a number.
+fn number_of_refusal(bytes: &[u8], bits: usize, place: usize) -> Golomb {
+    let golomb = (LIBRARY.unsigned_golomb)(bytes, bits, place);
+    let number = if golomb.status == 0 { golomb.number } else { 0 };
+    Golomb { number, ..golomb }
+}
+
+/// The sign is lost.
+fn no_sign(bytes: &[u8], bits: usize, place: usize) -> SignedNumber {
+    let signed = (LIBRARY.signed_golomb)(bytes, bits, place);
+    let number = signed.number.wrapping_abs();
+    SignedNumber { number, ..signed }
+}
+
+/// A refused start clears the state.
+fn start_clears(bytes: &[u8], bits: usize, state: State) -> Started {
+    let started = (LIBRARY.start)(bytes, bits, state);
+    let place = if started.status == 0 { started.state.place } else { 0 };
+    let state = State { place, ..started.state };
+    Started { state, ..started }
+}
+
+/// The context learns nothing.
+fn same_context(bytes: &[u8], bits: usize, state: State, context: Context) -> Bin {
+    let bin = (LIBRARY.decode)(bytes, bits, state, context);
+    Bin { context, ..bin }
+}
+
+/// The contexts change places.
+fn swapped(bytes: &[u8], bits: usize, state: State, first: Context, second: Context) -> PairBin {
+    let bin = (LIBRARY.decode_pair)(bytes, bits, state, first, second);
+    let (first, second) = (bin.second, bin.first);
+    PairBin { first, second, ..bin }
+}
+
+/// The last number handed over is another.
+fn last_number(answer: Answer, numbers: &mut [u64]) -> Answer {
+    if answer.count > 0 {
+        numbers[answer.count - 1] ^= 1;
+    }
+    answer
+}
+
+/// A slip by its name: what it changes in a decoder.
+type Slip = (&'static str, fn(&mut Decoder));
+
+/// At least one for every question.
+const SLIPS: [Slip; 28] = [
+    ("last row", |d| d.file = last_row),
+    ("word after the rows", |d| d.file = word_after_rows),
+    ("refusal that writes", |d| d.file = refusal_writes),
+    ("other refusal", |d| d.file = other_refusal),
+    ("other place", |d| d.file = other_place),
+    ("row before the end", |d| d.row_exists = row_before_end),
+    ("body with its code", |d| d.row_body = body_with_code),
+    ("group header", |d| {
+        d.group_header = |s, g, n| last_number((LIBRARY.group_header)(s, g, n), n)
+    }),
+    ("group display", |d| {
+        d.group_display = |s, g, n| last_number((LIBRARY.group_display)(s, g, n), n)
+    }),
+    ("colour of zeros", |d| d.group_colour = colour_of_zeros),
+    ("header", |d| {
+        d.sequence_header = |b, n| last_number((LIBRARY.sequence_header)(b, n), n)
+    }),
+    ("extension", |d| {
+        d.extension = |b, h, n| last_number((LIBRARY.extension)(b, h, n), n)
+    }),
+    ("display after a picture", |d| {
+        d.display = |b, _, n| (LIBRARY.display)(b, true, n)
+    }),
+    ("colour after a picture", |d| {
+        d.display_colour = |b, _, n| (LIBRARY.display_colour)(b, true, n)
+    }),
+    ("copyright", |d| {
+        d.copyright = |b, h, n| last_number((LIBRARY.copyright)(b, h, n), n)
+    }),
+    ("frame rate", |d| d.frame_rate = |c, n| (LIBRARY.frame_rate)(c.min(8), n)),
+    ("display ratio", |d| {
+        d.display_ratio = |a, n| (LIBRARY.display_ratio)(a & 0xFF, n)
+    }),
+    ("ones after the last bit", |d| d.remove_escapes = ones_after_last_bit),
+    ("number of a refusal", |d| d.unsigned_golomb = number_of_refusal),
+    ("no sign", |d| d.signed_golomb = no_sign),
+    ("stale context", |d| {
+        d.fresh_context = || Context {
+            lg: 1022,
+            ..(LIBRARY.fresh_context)()
+        }
+    }),
+    ("start that clears", |d| d.start = start_clears),
+    ("same context", |d| d.decode = same_context),
+    ("swapped contexts", |d| d.decode_pair = swapped),
+    ("stuffing for bypass", |d| d.bypass = d.stuffing),
+    ("bypass for stuffing", |d| d.stuffing = d.bypass),
+    ("start code from one on", |d| {
+        d.next_start_code = |s, from| (LIBRARY.next_start_code)(s, from.max(1))
+    }),
+    ("edit code unknown", |d| {
+        d.kind = |code| if code == 0xB7 { 8 } else { (LIBRARY.kind)(code) }
+    }),
+];
+
+#[test]
+fn every_slip_is_found() {
+    for (name, slip) in SLIPS {
+        let mut library = LIBRARY;
+        slip(&mut library);
+        let decoders = Decoders {
+            library: &library,
+            ..DECODERS
+        };
+        let report = small(decoders, 1);
+        assert!(report.differences > 0, "{}", name);
+        assert!(report.to_string().contains("difference: "), "{}", name);
+    }
+}
+
+#[test]
+fn a_slip_of_either_wrapper_is_found() {
+    for which in 0..2 {
+        let mut wrapper = *DECODERS.wrappers[which];
+        wrapper.file = last_row;
+        let mut wrappers = DECODERS.wrappers;
+        wrappers[which] = &wrapper;
+        assert!(small(Decoders { wrappers, ..DECODERS }, 1).differences > 0);
+    }
+}

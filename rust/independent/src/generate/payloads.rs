@@ -1,0 +1,141 @@
+//! Payloads, bin states and contexts.
+
+use super::random::Random;
+use crate::bins::{Context, State};
+
+fn bytes(random: &mut Random, length: u64, from: &[u8]) -> Vec<u8> {
+    (0..length).map(|_| random.pick(from)).collect()
+}
+
+/// A payload rich in 00 and 02, mostly short, at times as long as may be, rarely one byte longer.
+pub fn payload(random: &mut Random) -> Vec<u8> {
+    let length = match random.below(400) {
+        0 => random.pick(&[65_535, 65_536, 65_537]),
+        1 => random.between(1000, 65_536),
+        2..=99 => random.below(6),
+        100..=249 => random.below(40),
+        _ => random.below(400),
+    };
+    let mut made = match random.below(4) {
+        0 => bytes(random, length, &[0, 0, 2]),
+        1 => bytes(random, length, &[0, 0, 0, 2, 2, 1, 3, 0xFF]),
+        2 => bytes(random, length, &[0, 2, 0x80, 0x40, 0x08, 0x7F, 0x22]),
+        _ => (0..length).map(|_| random.byte()).collect(),
+    };
+    let hole = random.index(made.len() + 1);
+    if made.len() >= hole + 3 {
+        made[hole..hole + 3].copy_from_slice(&[0, 0, 2]);
+    }
+    made
+}
+
+/// A payload for bins: any bits, or long runs of zeros or ones; rarely over the limit.
+pub fn bins_payload(random: &mut Random) -> Vec<u8> {
+    let length = match random.below(400) {
+        0 => random.pick(&[65_535, 65_536, 65_537]),
+        1..=5 => random.between(200, 3000),
+        6..=149 => random.below(8),
+        _ => random.below(120),
+    };
+    match random.below(6) {
+        0 => bytes(random, length, &[0, 0, 0, 0, 0, 0, 0, 1, 0x10]),
+        1 => bytes(random, length, &[0xFF, 0xFF, 0xFF, 0xFE, 0xBF]),
+        2 => bytes(random, length, &[0, 0x80, 0xFF, 0x55, 0xAA]),
+        _ => (0..length).map(|_| random.byte()).collect(),
+    }
+}
+
+/// A number from 0 to `most`, often at or next to its limits.
+fn up_to(random: &mut Random, most: u64) -> u64 {
+    match random.below(6) {
+        0 => 0,
+        1 => most,
+        2 => most.min(1),
+        3 => most.saturating_sub(1),
+        _ => random.between(0, most),
+    }
+}
+
+/// One more than `most`, or something far off.
+fn over(random: &mut Random, most: u64) -> u64 {
+    match random.below(4) {
+        0 => u64::MAX,
+        1 => random.word().max(most + 1),
+        _ => most + 1,
+    }
+}
+
+/// rS and valueS: mostly equal or close, where the decision between the bins is.
+fn pair_of_s(random: &mut Random) -> (u64, u64) {
+    let vs = match random.below(4) {
+        0 => up_to(random, 524_288),
+        1 => 0,
+        _ => random.below(12),
+    };
+    let rs = match random.below(4) {
+        0 => up_to(random, vs),
+        1 => vs.saturating_sub(1),
+        _ => vs,
+    };
+    (rs, vs)
+}
+
+/// A bit place: mostly with bits left to read.
+fn place(random: &mut Random, bits: u64) -> u64 {
+    match random.below(8) {
+        0 => bits,
+        1 => bits.saturating_sub(random.below(24)),
+        2 => 0,
+        3 => bits.min(9),
+        _ => random.between(0, bits),
+    }
+}
+
+/// A state for a payload of so many bits; once in six outside its ranges in one field.
+pub fn state(random: &mut Random, bits: u64) -> State {
+    let bits = bits.min(524_288);
+    let (rs, vs) = pair_of_s(random);
+    let (rt, vt) = (up_to(random, 255), up_to(random, 255));
+    let mut made = State {
+        rs,
+        rt,
+        vs,
+        vt,
+        place: place(random, bits),
+    };
+    if !random.once_in(6) {
+        return made;
+    }
+    match random.below(5) {
+        0 => made.rs = over(random, vs),
+        1 => made.vs = over(random, 524_288),
+        2 => made.rt = over(random, 255),
+        3 => made.vt = over(random, 255),
+        _ => made.place = over(random, bits),
+    }
+    made
+}
+
+/// A context; once in eight outside its ranges in one field.
+pub fn context(random: &mut Random) -> Context {
+    let lg = match random.below(4) {
+        0 => 4 + up_to(random, 12),
+        1 => 1023 - up_to(random, 260),
+        _ => 4 + up_to(random, 1019),
+    };
+    let mut made = Context {
+        mps: random.below(2),
+        lg,
+        cycno: random.below(4),
+    };
+    if !random.once_in(8) {
+        return made;
+    }
+    match random.below(4) {
+        0 => made.mps = over(random, 1),
+        1 => made.lg = over(random, 1023),
+        2 => made.lg = random.below(4),
+        _ => made.cycno = over(random, 3),
+    }
+    made
+}

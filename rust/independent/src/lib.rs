@@ -1,0 +1,23 @@
+//! A plain decoder written from document 01 alone, to be compared with another one.
+//! It aims at being obviously the document's words, not at speed.
+#![forbid(unsafe_code)]
+
+mod bins;
+mod bits;
+mod filing;
+pub mod generate;
+mod layouts;
+mod payload;
+mod refusals;
+mod rows;
+mod units;
+
+pub use bins::{bypass, decode, decode_pair, fresh, start, stuffing, Context, State};
+pub use filing::{file, group};
+pub use layouts::{
+    display_ratio, extension, frame_rate, header, macroblock_columns, macroblock_rows, Copyright, Display, Extension, Header,
+};
+pub use payload::{golomb, signed_golomb, unescape};
+pub use refusals::{Refused, NAMES};
+pub use rows::{row_body, row_exists};
+pub use units::{kind, next_start_code};

@@ -1,0 +1,207 @@
+//! The generators, measured with this package's own decoder.
+
+use independent::generate::*;
+use independent::*;
+
+/// The answer's number and, for a refusal at a unit, how many start codes stand before it.
+fn outcome(stream: &[u8]) -> (usize, usize) {
+    let mut rows = vec![0; 3 * stream.len()];
+    match file(stream, &mut rows) {
+        Ok(_) => (0, 0),
+        Err(refused) => {
+            let mut units = 0;
+            let mut place = next_start_code(stream, 0);
+            while place < refused.place {
+                units += 1;
+                place = next_start_code(stream, place + 1);
+            }
+            (refused.number as usize, units)
+        }
+    }
+}
+
+#[test]
+fn good_streams_are_filed() {
+    let mut random = Random::new(1);
+    let mut longest = 0;
+    for _ in 0..20_000 {
+        let bytes = stream(&mut random);
+        longest = longest.max(bytes.len());
+        assert_eq!(outcome(&bytes).0, 0, "{bytes:02X?}");
+    }
+    assert!(longest > 4000, "{longest}");
+}
+
+#[test]
+fn every_filing_refusal_is_met() {
+    let mut random = Random::new(2);
+    let mut met = [0; 17];
+    let mut later = [0; 17];
+    let mut furthest = [0; 17];
+    for _ in 0..20_000 {
+        let (number, unit) = outcome(&damaged(&mut random));
+        met[number] += 1;
+        later[number] += usize::from(unit >= 3);
+        furthest[number] = furthest[number].max(unit);
+    }
+    for number in 0..12 {
+        let (count, late, far) = (met[number], later[number], furthest[number]);
+        println!(
+            "{number:2} {:12} {count:5} times, {late:5} at unit 3 or later, furthest {far}",
+            NAMES[number]
+        );
+    }
+    assert!(met[1..12].iter().all(|&count| count >= 100), "{met:?}");
+    assert!(met[12..].iter().all(|&count| count == 0), "{met:?}");
+}
+
+/// How often each number comes up in 20,000 tries.
+fn tally(mut try_once: impl FnMut() -> u32) -> [u32; 17] {
+    let mut met = [0; 17];
+    for _ in 0..20_000 {
+        met[try_once() as usize] += 1;
+    }
+    met
+}
+
+fn number<T>(answer: Result<T, u32>) -> u32 {
+    answer.err().unwrap_or(0)
+}
+
+#[test]
+fn bodies_are_good_about_half_the_time() {
+    let mut random = Random::new(3);
+    let headers = tally(|| number(header(&header_body(&mut random))));
+    let extensions = tally(|| number(extension(&extension_body(&mut random), true)));
+    println!("headers {headers:?}\nextensions {extensions:?}");
+    for met in [headers, extensions] {
+        assert!((8000..=14_000).contains(&met[0]));
+        assert!(met[6..10].iter().all(|&count| count >= 500));
+    }
+}
+
+#[test]
+fn payload_refusals_are_met() {
+    let mut random = Random::new(4);
+    let escapes = tally(|| {
+        let bytes = payload(&mut random);
+        let lent = bytes.len() - random.index(20).saturating_sub(18).min(bytes.len());
+        number(unescape(&bytes, &mut vec![0; lent]))
+    });
+    let numbers = tally(|| {
+        let bytes = payload(&mut random);
+        let bits = 8 * bytes.len() as u64;
+        let place = random.below(bits + 2);
+        number(golomb(&bytes, bits + 1 - random.below(3).min(bits), place))
+    });
+    println!("escape removal {escapes:?}\nExp-Golomb {numbers:?}");
+    assert!(escapes[0] >= 15_000 && escapes[12] >= 500 && escapes[13] >= 5);
+    assert!(numbers[0] >= 5000 && numbers[8] >= 100 && numbers[13] >= 5 && numbers[14] >= 500);
+}
+
+#[test]
+fn bin_refusals_are_met() {
+    let mut random = Random::new(5);
+    let mut ones = 0;
+    let singles = tally(|| {
+        let bytes = bins_payload(&mut random);
+        let bits = 8 * bytes.len() as u64;
+        let answer = decode(&bytes, bits, state(&mut random, bits), context(&mut random));
+        ones += u32::from(matches!(answer, Ok((1, _, _))));
+        number(answer)
+    });
+    println!("bins {singles:?}, of them ones {ones}");
+    assert!(singles[0] >= 10_000 && singles[13] >= 5 && singles[14] >= 500 && singles[15] >= 2000);
+    assert!(ones >= 4000 && ones <= singles[0] - 4000);
+}
+
+/// Every state and context that a good step answers is within its ranges: the next step is never BAD STATE.
+#[test]
+fn steps_stay_in_range() {
+    let mut random = Random::new(6);
+    for _ in 0..2000 {
+        let bytes = bins_payload(&mut random);
+        let count = 8 * bytes.len() as u64;
+        let mut s = state(&mut random, count);
+        let (mut a, mut b) = (context(&mut random), context(&mut random));
+        let mut steps = 0;
+        while let Ok((_, after, after_a, after_b)) = decode_pair(&bytes, count, s, a, b) {
+            s = after;
+            a = after_a;
+            b = after_b;
+            steps += 1;
+            if steps == 500 {
+                break;
+            }
+        }
+        if steps > 0 {
+            assert_ne!(number(decode_pair(&bytes, count, s, a, b)), 15);
+        }
+    }
+}
+
+#[test]
+fn refusals_write_nothing() {
+    let mut random = Random::new(7);
+    for _ in 0..2000 {
+        let bytes = damaged(&mut random);
+        let words = random.index(200);
+        let mut rows = vec![0xABCD; words];
+        match file(&bytes, &mut rows) {
+            Ok(units) => assert!(rows[3 * units as usize..].iter().all(|&word| word == 0xABCD)),
+            Err(_) => assert!(rows.iter().all(|&word| word == 0xABCD)),
+        }
+        let g = random.below(4);
+        let same = match (file(&bytes, &mut vec![0; 3 * bytes.len()]), group(&bytes, g)) {
+            (Ok(_), Err(refused)) => refused == Refused { number: 16, place: 0 },
+            (Ok(_), Ok(_)) => true,
+            (Err(a), b) => b == Err(a),
+        };
+        assert!(same);
+    }
+}
+
+#[test]
+fn generators_are_deterministic() {
+    let make = |seed| {
+        let mut random = Random::new(seed);
+        (0..50).map(|_| damaged(&mut random)).collect::<Vec<_>>()
+    };
+    assert_eq!(make(8), make(8));
+    assert_ne!(make(8), make(9));
+}
+
+/// A number that is small, or at the far end of its range.
+fn wild(random: &mut Random) -> u64 {
+    match random.below(3) {
+        0 => random.below(80),
+        1 => u64::MAX - random.below(80),
+        _ => random.word(),
+    }
+}
+
+#[test]
+fn nothing_panics() {
+    let mut random = Random::new(10);
+    for _ in 0..5000 {
+        let bytes = bins_payload(&mut random);
+        let (count, place) = (wild(&mut random), wild(&mut random));
+        let s = state(&mut random, count);
+        let (a, b) = (context(&mut random), context(&mut random));
+        let rows: Vec<u32> = (0..random.below(9)).map(|_| wild(&mut random) as u32).collect();
+        let _ = (golomb(&bytes, count, place), signed_golomb(&bytes, count, place));
+        let _ = (start(&bytes, count), bypass(&bytes, count, s), stuffing(&bytes, count, s));
+        let _ = (decode(&bytes, count, s, a), decode_pair(&bytes, count, s, a, b));
+        let _ = (
+            header(&bytes),
+            extension(&bytes, true),
+            extension(&bytes, false),
+            group(&bytes, place),
+        );
+        let (offset, length) = row_body(&bytes, &rows, random.below(4));
+        assert!(bytes.get(offset..offset + length).is_some());
+        let exists = row_exists(&bytes, &rows, place);
+        assert!(exists || row_body(&bytes, &rows, place) == (0, 0));
+        assert!(next_start_code(&bytes, place) <= bytes.len() as u64);
+    }
+}
