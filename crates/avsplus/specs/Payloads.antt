@@ -1,5 +1,5 @@
 -- Exp-Golomb numbers and bins by value. A refusal gives back the place, the state and the contexts that were asked with; in place of
--- a number or a bin, which it has none of, it has a mark that is no number and no bin (marked, in proofs/Main.antt).
+-- a number or a bin, which it has none of, it has a mark that is no number and no bin (proofs/Main.antt).
 use Prim.Native.Nat.{ℕ}
 use lib.IntN.{ℤ, pos, negℤ}
 use Rattle.bits.specs.Answers.{Outcome, done, refused}

@@ -1,0 +1,69 @@
+-- The front page: the marks that stand where a refusal has no number and no bin are no answer's number and no answer's bin.
+use Prim.Native.Nat.{ℕ, zero, suc, _+_, _/_, _%_, _<_}
+use mathlib.Core.Path.{_≡_, refl, ap, _∙_}
+use mathlib.Core.Logic.{_≢_}
+use mathlib.Core.List.{List}
+use mathlib.Core.Bool.{Bool, true, false, cond}
+use native.Mathlib.Omega.{arith}
+use lib.Dec.{eqb}
+use lib.IntN.{ℤ, pos, negsuc, negℤ}
+use Rattle.bits.specs.Answers.{Outcome, done, refused, mapDone}
+use Rattle.payload.specs.Golomb.{Numbered, golomb, standsFor, withSign, signedGolomb}
+use Rattle.payload.proofs.GolombLaws.{golomb-bound}
+use Rattle.aec.specs.Bins.{bypassOf, stuffingOf, decodeOf, decodePairOf}
+use Rattle.aec.specs.declared.State.{State}
+use Rattle.aec.specs.declared.Context.{Context}
+use Rattle.aec.proofs.Main as aec
+use Rattle.avsplus.specs.Payloads.{noNumber, noSignedNumber, noBin}
+
+pub number-marked : (bytes : List ℕ) (bits place : ℕ) (m : Numbered ℕ) → golomb bytes bits place ≡ done m → m .number ≢ noNumber
+number-marked bytes bits place m e z = let h = golomb-bound bytes bits place m e in omega arith
+
+-- how far a number is below 0
+below : ℤ → ℕ
+below (pos n) = 0
+below (negsuc n) = suc n
+
+below-minus : (k : ℕ) → below (negℤ (pos k)) ≡ k
+unfolding below
+below-minus zero = refl
+below-minus (suc k) = refl
+
+-- half of a number below 2^32 - 1 is below 2^31
+signed-small : (n : ℕ) → n < 4294967295 → below (standsFor n) < 2147483648
+unfolding below standsFor
+signed-small n h = halves (eqb (n % 2) 1)
+  where
+    halves : (odd : Bool) → below (cond odd (pos ((n + 1) / 2)) (negℤ (pos (n / 2)))) < 2147483648
+    halves true = omega arith
+    halves false = let e = below-minus (n / 2) in omega arith
+
+-- the unsigned number behind a signed one
+unsigned : (o : Outcome (Numbered ℕ)) (m : Numbered ℤ) → mapDone withSign o ≡ done m → (n : Numbered ℕ) × (o ≡ done n) × (standsFor (n .number) ≡ m .number)
+unsigned (done n) m e = (n, refl, numbers e)
+  where
+    numbers : done (withSign n) ≡ done m → standsFor (n .number) ≡ m .number
+    numbers e = cc
+unsigned (refused number carried) m e = let z : _≡_ {A = ℕ} 0 1 = cc in absurd (omega arith)
+
+pub signed-marked : (bytes : List ℕ) (bits place : ℕ) (m : Numbered ℤ) → signedGolomb bytes bits place ≡ done m → m .number ≢ noSignedNumber
+unfolding signedGolomb
+signed-marked bytes bits place m e z =
+    let u = unsigned (golomb bytes bits place) m e in
+    let h = signed-small (u .0 .number) (golomb-bound bytes bits place (u .0) (u .1)) in
+    let k = ap below (u .2 ∙ z) in
+    let b = below-minus 2147483648 in
+    omega arith
+
+pub bypass-marked : (bytes : List ℕ) (bits : ℕ) (x : State) (bin : ℕ) (y : State) → bypassOf bytes bits x ≡ done (bin, y) → bin ≢ noBin
+bypass-marked bytes bits x bin y e z = let h = aec.bypass-good bytes bits x bin y e .binary in omega arith
+
+pub stuffing-marked : (bytes : List ℕ) (bits : ℕ) (x : State) (bin : ℕ) (y : State) → stuffingOf bytes bits x ≡ done (bin, y) → bin ≢ noBin
+stuffing-marked bytes bits x bin y e z = let h = aec.stuffing-good bytes bits x bin y e .binary in omega arith
+
+pub decode-marked : (bytes : List ℕ) (bits : ℕ) (x : State) (c : Context) (bin : ℕ) (y : State) (d : Context) → decodeOf bytes bits x c ≡ done (bin, y, d) → bin ≢ noBin
+decode-marked bytes bits x c bin y d e z = let h = aec.decode-good bytes bits x c bin y d e .0 .binary in omega arith
+
+pub decode-pair-marked : (bytes : List ℕ) (bits : ℕ) (x : State) (a b : Context) (bin : ℕ) (y : State) (c d : Context)
+    → decodePairOf bytes bits x a b ≡ done (bin, y, c, d) → bin ≢ noBin
+decode-pair-marked bytes bits x a b bin y c d e z = let h = aec.decode-pair-good bytes bits x a b bin y c d e .0 .binary in omega arith
