@@ -1,6 +1,6 @@
 -- Good leads to good, and past the first tests only PAYLOAD OUT refuses.
 use Prim.Native.Nat.{ℕ, _-_, _/_, _%_, _≤_, _<_}
-use mathlib.Core.Path.{_≡_, refl, subst, _∙_}
+use mathlib.Core.Path.{_≡_, subst, _∙_}
 use mathlib.Core.List.{List, [], _∷_}
 use mathlib.Core.Bool.{Bool}
 use native.Mathlib.Omega.{arith}
@@ -22,7 +22,7 @@ use Rattle.aec.proofs.LawsAnswers.{came}
 use Rattle.aec.proofs.LawsRanges.{chosen, StateRanges, payload-bound}
 use Rattle.aec.proofs.LawsShifts.{normalised, widened}
 use Rattle.aec.proofs.LawsContexts.{Predicts}
-use Rattle.aec.proofs.LawsSteps.{limit-held, nine-bits, split-ranges, not-missed, remainder-within, step-hit, step-missed}
+use Rattle.aec.proofs.LawsSteps.{limit-held, nine-bits, split-ranges, not-missed, remainder-within, bin-hit, bin-missed}
 
 -- ── good leads to good ──
 
@@ -55,19 +55,20 @@ module _ (bytes : List ℕ) (count : ℕ) (short : length bytes ≤ 65536) where
   -- a step from a state within its ranges leads to one, and its bin is 0 or 1
   pub step-good : (x : State) (g : Prediction) (r : ℕ × State) → StateRanges (length (payload bytes count)) x → Predicts g → stepOf (payload bytes count) x g ≡ done r
       → (StateRanges (length (payload bytes count)) (r .1)) × (r .0 ≤ 1) × (x .place ≤ r .1 .place)
+  unfolding stepOf
   step-good x g r h p e =
       let l = payload bytes count in
       let y = splitOf x (g .lg / 4) in
       let s = split-ranges x (g .lg / 4) (h .rt) (omega arith) (omega arith) in
       by-test (missesOf x y)
       (λ t.
-      let c = came (unpredictedOf l x y) _ r (step-missed l x g y refl t ∙ e) in
+      let c = came (unpredictedOf l x y) _ r (bin-missed l x (g .p) y t ∙ e) in
       let u = unpredicted-good x y (c .value) h (s .low) (s .high) (c .from) in
       let is : _≡_ {A = ℕ × State} (1 - g .p, c .value) r = cc (c .to) in
       subst (λ r. (StateRanges (length l) (r .1)) × (r .0 ≤ 1) × (x .place ≤ r .1 .place)) is (u .0, omega arith, u .1))
       (λ f.
       let n = not-missed x y f in
-      let is : _≡_ {A = ℕ × State} (g .p, record { rs = y .s; rt = y .t; vs = x .vs; vt = x .vt; place = x .place }) r = cc (step-hit l x g y refl f) in
+      let is : _≡_ {A = ℕ × State} (g .p, record { rs = y .s; rt = y .t; vs = x .vs; vt = x .vt; place = x .place }) r = cc (bin-hit l x (g .p) y f) in
       subst (λ r. (StateRanges (length l) (r .1)) × (r .0 ≤ 1) × (x .place ≤ r .1 .place)) is
       (record { rs = n; vs = h .vs; rt = s .t; vt = h .vt; place = h .place }, p .bin, omega arith))
 

@@ -2,10 +2,10 @@
 use Prim.Native.Nat.{ℕ, _+_, _-_, _/_, _≤_, _<_}
 use mathlib.Core.Path.{_≡_, sym, ap, _∙_}
 use mathlib.Core.List.{List, []}
-use mathlib.Core.Bool.{Bool, true, false, _&&_, true≢false}
+use mathlib.Core.Bool.{Bool, true, false, _&&_, true≢false, or-false}
 use native.Mathlib.Omega.{arith}
 use borrow.Author.Tests.{le-leb, lt-leb, lt-ltb, le-ltb, eq-eqb, ne-eqb, leb-true, leb-false, eqb-true, eqb-false}
-use lib.Dec.{leb, eqb}
+use lib.Dec.{leb, ltb, eqb}
 use lib.ListN.{length, drop, length-take}
 use Rattle.bits.specs.Answers.{Outcome, done, refused, TOO-LONG, BAD-STATE}
 use Rattle.bits.specs.Bits.{payload, readAt}
@@ -14,7 +14,7 @@ use Rattle.bits.proofs.Lists.{by-test}
 use Rattle.bits.specs.declared.Read.the-variants as read
 use Rattle.bits.proofs.Laws.{Binary, length-in}
 use Rattle.bits.proofs.Main.{read-exactly}
-use Rattle.aec.specs.Bins.{andThen, goodState, withinLimit, refusedFirst, doubleOf, splitOf, missesOf, remainderOf, unpredictedOf, stepOf}
+use Rattle.aec.specs.Bins.{andThen, goodState, withinLimit, refusedFirst, doubleOf, splitOf, missesOf, remainderOf, unpredictedOf, binOf, stepOf}
 use Rattle.aec.specs.declared.State.{State}
 use Rattle.aec.specs.declared.Split.{Split}
 use Rattle.aec.specs.declared.Prediction.{Prediction}
@@ -96,13 +96,9 @@ split-ranges x q h i j =
 -- ── whether the bin was predicted ──
 
 module _ (x : State) (y : Split) where
-  pub misses-past : x .vs < y .s → true ≡ missesOf x y
+  pub misses-apart : (y .s ≡ x .vs → ⊥) → ltb (x .vs) (y .s) ≡ missesOf x y
   unfolding missesOf
-  misses-past h = simp (lt-ltb _ _ h)
-
-  pub misses-before : y .s < x .vs → false ≡ missesOf x y
-  unfolding missesOf
-  misses-before h = simp (le-ltb (x .vs) (y .s) (omega arith), ne-eqb (y .s) (x .vs) (λ e. omega arith))
+  misses-apart h = simp (ne-eqb _ _ h, or-false)
 
   pub misses-even : y .s ≡ x .vs → leb (y .t) (x .vt) ≡ missesOf x y
   unfolding missesOf
@@ -113,7 +109,12 @@ module _ (x : State) (y : Split) where
   missed e h = leb-true _ _ (misses-even h ∙ e)
 
   pub not-missed : missesOf x y ≡ false → y .s ≤ x .vs
-  not-missed e = by-test (leb (y .s) (x .vs)) (leb-true _ _) (λ f. let z : true ≡ false = misses-past (leb-false _ _ f) ∙ e in absurd (true≢false z))
+  not-missed e =
+      by-test (leb (y .s) (x .vs)) (leb-true _ _)
+      (λ f.
+      let past = leb-false (y .s) (x .vs) f in
+      let z : true ≡ false = sym (lt-ltb _ _ past) ∙ misses-apart (λ even. omega arith) ∙ e in
+      absurd (true≢false z))
 
 -- ── what valueT becomes ──
 
@@ -146,17 +147,20 @@ module _ (l : List ℕ) (x : State) (y : Split) where
 
 -- ── one bin ──
 
-module _ (l : List ℕ) (x : State) (g : Prediction) (y : Split) (is : y ≡ splitOf x (g .lg / 4)) where
-  pub step-hit : missesOf x y ≡ false → done (g .p, record { rs = y .s; rt = y .t; vs = x .vs; vt = x .vt; place = x .place }) ≡ stepOf l x g
-  unfolding stepOf
-  step-hit h = rw (← is) (simp h)
+module _ (l : List ℕ) (x : State) (p : ℕ) (y : Split) where
+  pub bin-hit : missesOf x y ≡ false → done (p, record { rs = y .s; rt = y .t; vs = x .vs; vt = x .vt; place = x .place }) ≡ binOf l x p y
+  bin-hit h = simp h
 
-  pub step-missed : missesOf x y ≡ true → andThen (unpredictedOf l x y) (λ next. done (1 - g .p, next)) ≡ stepOf l x g
-  unfolding stepOf
-  step-missed h = rw (← is) (simp h)
+  pub bin-missed : missesOf x y ≡ true → andThen (unpredictedOf l x y) (λ next. done (1 - p, next)) ≡ binOf l x p y
+  bin-missed h = simp h
 
-  pub step-miss : (next : State) → missesOf x y ≡ true → done next ≡ unpredictedOf l x y → done (1 - g .p, next) ≡ stepOf l x g
-  step-miss next h e = goes (λ next. done (1 - g .p, next)) e ∙ step-missed h
+  pub bin-miss : (next : State) → missesOf x y ≡ true → done next ≡ unpredictedOf l x y → done (1 - p, next) ≡ binOf l x p y
+  bin-miss next h e = goes (λ next. done (1 - p, next)) e ∙ bin-missed h
 
-  pub step-stops : (r : Refusal) → missesOf x y ≡ true → refusalSays r ≡ unpredictedOf l x y → refusalSays r ≡ stepOf l x g
-  step-stops r h e = stops r (λ next. done (1 - g .p, next)) e ∙ step-missed h
+  pub bin-stops : (r : Refusal) → missesOf x y ≡ true → refusalSays r ≡ unpredictedOf l x y → refusalSays r ≡ binOf l x p y
+  bin-stops r h e = stops r (λ next. done (1 - p, next)) e ∙ bin-missed h
+
+-- a bin of the range that the prediction splits
+pub step-is : (l : List ℕ) (x : State) (g : Prediction) (y : Split) → y ≡ splitOf x (g .lg / 4) → binOf l x (g .p) y ≡ stepOf l x g
+unfolding stepOf
+step-is l x g y is = ap (binOf l x (g .p)) is

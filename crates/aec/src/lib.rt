@@ -1,12 +1,12 @@
 // The arithmetic bin decoder, by value.
 ghost use mathlib.Core.Path.{_≡_};
 ghost use mathlib.Core.Bool.{true, _&&_};
-ghost use Prim.Native.Nat.{_*_, _≤_, _<_};
+ghost use Prim.Native.Nat.{_*_, _/_, _≤_, _<_};
 ghost use lib.ListN.{length, drop};
 ghost use Rattle.bits.specs.Bits.{payload};
 ghost use Rattle.aec.specs.Bins.{goodState, goodContext, freshContext, refusedFirst};
 ghost use Rattle.aec.specs.Bins.{doubleOf, normaliseOf, widenOf, settleOf, startOf};
-ghost use Rattle.aec.specs.Bins.{splitOf, missesOf, remainderOf, unpredictedOf, stepOf};
+ghost use Rattle.aec.specs.Bins.{splitOf, missesOf, remainderOf, unpredictedOf, binOf};
 ghost use Rattle.aec.specs.Bins.{pairOf, plainOf, bypassOf, stuffingOf, decodeOf, decodePairOf};
 ghost use Rattle.aec.specs.Bins.{rateOf, gainOf, nextLg, nextCycno, updateOf};
 ghost use Rattle.aec.specs.Says.{checkedSays, doubledSays, shiftedSays, startedSays, steppedSays, decodedSays, decodedPairSays};
@@ -274,10 +274,11 @@ pub fn start(bytes: &[u8], count: usize) -> Started
 }
 
 // s, t and R, by whether rT reaches q.
-fn split_range(x: State, q: u32) -> Split
-    requires { ⌜ (x .rs ≤ 524288) × (x .rt ≤ 255) × (q ≤ 255) ⌝ }
-    ensures { λ r. ⌜ r ≡ splitOf x q ⌝ }
+fn split_range(x: State, lg: u32) -> Split
+    requires { ⌜ (x .rs ≤ 524288) × (x .rt ≤ 255) × (4 ≤ lg) × (lg ≤ 1023) ⌝ }
+    ensures { λ r. ⌜ (r ≡ splitOf x (lg / 4)) × (r .t ≤ 255) × (1 ≤ r .range) × (r .range < 512) ⌝ }
 {
+    let q = lg / 4;
     if q <= x.rt {
         return Split {
             s: x.rs,
@@ -296,13 +297,10 @@ fn split_range(x: State, q: u32) -> Split
 fn misses(x: State, y: Split) -> bool
     ensures { λ r. ⌜ r ≡ missesOf x y ⌝ }
 {
-    if x.vs < y.s {
-        return true;
+    if y.s == x.vs {
+        return y.t <= x.vt;
     }
-    if y.s < x.vs {
-        return false;
-    }
-    y.t <= x.vt
+    x.vs < y.s
 }
 
 // valueT less t. Where s is past valueS it borrows 256 and takes the next bit first.
@@ -333,20 +331,19 @@ fn unpredicted(bytes: &[u8], count: usize, x: State, y: Split) -> Started
     }
 }
 
-// One bin, of a state within its ranges.
-fn step(bytes: &[u8], count: usize, x: State, g: Prediction) -> Stepped
-    requires { ⌜ (length (now bytes) ≤ 65536) × (goodState (length (payload (now bytes) count)) x ≡ true) × (g .p ≤ 1) × (4 ≤ g .lg) × (g .lg ≤ 1023) ⌝ }
-    ensures { λ r. ⌜ steppedSays r ≡ stepOf (payload (now (bytes .entry)) count) x g ⌝ }
+// One bin, of a state within its ranges. Its callers split the range: that leaves it small enough to be inlined into each.
+fn step(bytes: &[u8], count: usize, x: State, p: u32, y: Split) -> Stepped
+    requires { ⌜ (length (now bytes) ≤ 65536) × (goodState (length (payload (now bytes) count)) x ≡ true) × (p ≤ 1) × (y .t ≤ 255) × (1 ≤ y .range) × (y .range < 512) ⌝ }
+    ensures { λ r. ⌜ steppedSays r ≡ binOf (payload (now (bytes .entry)) count) x p y ⌝ }
 {
-    let y = split_range(x, g.lg / 4);
     if misses(x, y) {
         return match unpredicted(bytes, count, x, y) {
-            Started::Done(z) => Stepped::Done(1 - g.p, z),
+            Started::Done(z) => Stepped::Done(1 - p, z),
             Started::Refused(r) => Stepped::Refused(r),
         };
     }
     Stepped::Done(
-        g.p,
+        p,
         State {
             rs: y.s,
             rt: y.t,
@@ -363,7 +360,7 @@ fn plain(bytes: &[u8], count: usize, x: State, lg: u32) -> Stepped
     ensures { λ r. ⌜ steppedSays r ≡ plainOf (now (bytes .entry)) count x lg ⌝ }
 {
     match guard(bytes, count, x, true) {
-        Checked::Fine => step(bytes, count, x, Prediction { p: 0, lg }),
+        Checked::Fine => step(bytes, count, x, 0, split_range(x, lg)),
         Checked::Refused(r) => Stepped::Refused(r),
     }
 }
@@ -484,7 +481,7 @@ pub fn decode(bytes: &[u8], count: usize, x: State, c: Context) -> Decoded
     ensures { λ r. ⌜ decodedSays r ≡ decodeOf (now (bytes .entry)) count x c ⌝ }
 {
     match guard(bytes, count, x, good_context(c)) {
-        Checked::Fine => match step(bytes, count, x, Prediction { p: c.mps, lg: c.lg }) {
+        Checked::Fine => match step(bytes, count, x, c.mps, split_range(x, c.lg)) {
             Stepped::Done(bin, next) => Decoded::Done(bin, next, updated(c, bin)),
             Stepped::Refused(r) => Decoded::Refused(r),
         },
@@ -507,15 +504,18 @@ pub fn decode_pair(bytes: &[u8], count: usize, x: State, a: Context, b: Context)
     ensures { λ r. ⌜ decodedPairSays r ≡ decodePairOf (now (bytes .entry)) count x a b ⌝ }
 {
     match guard(bytes, count, x, good_pair(a, b)) {
-        Checked::Fine => match step(bytes, count, x, pair(a, b)) {
-            Stepped::Done(bin, next) => DecodedPair::Done(
-                bin,
-                next,
-                updated(a, bin),
-                updated(b, bin),
-            ),
-            Stepped::Refused(r) => DecodedPair::Refused(r),
-        },
+        Checked::Fine => {
+            let g = pair(a, b);
+            match step(bytes, count, x, g.p, split_range(x, g.lg)) {
+                Stepped::Done(bin, next) => DecodedPair::Done(
+                    bin,
+                    next,
+                    updated(a, bin),
+                    updated(b, bin),
+                ),
+                Stepped::Refused(r) => DecodedPair::Refused(r),
+            }
+        }
         Checked::Refused(r) => DecodedPair::Refused(r),
     }
 }

@@ -1,6 +1,7 @@
 -- A step by the context's own prediction, and its update, once nothing is refused.
 use Prim.Native.Nat.{ℕ}
 use mathlib.Core.Path.{_≡_, sym, ap, _∙_}
+use native.Mathlib.Omega.{arith}
 use Rattle.bits.specs.Answers.{Outcome, done}
 use Rattle.bits.specs.Bits.{payload}
 use Rattle.aec.specs.Bins.{goodContext, refusedFirst, stepOf, updateOf, decodeOf}
@@ -8,8 +9,8 @@ use Rattle.aec.specs.Says.{checkedSays, steppedSays}
 use Rattle.aec.specs.declared.State.{State}
 use Rattle.aec.specs.declared.Context.{Context}
 use Rattle.aec.proofs.LawsAnswers.{stops, goes-on, stops-next}
-use Rattle.aec.proofs.LawsRanges.{context-ranges}
-use Rattle.aec.proofs.LawsSteps.{first-held}
+use Rattle.aec.proofs.LawsRanges.{state-ranges, context-ranges}
+use Rattle.aec.proofs.LawsSteps.{first-held, step-is}
 use borrow.Author.Needs.{needs}
 use Rattle.aec.proofs.decode.Statement.{statement}
 use Rattle.aec.proofs.decode.Tie as tie
@@ -41,17 +42,24 @@ fine : (c : tie.After-enum-told) → let a = c .before .before .before .before .
     done tt ≡ refusedFirst (a .bytes .now) (a .count) (a .x) (goodContext (a .c))
 fine c = ap checkedSays (sym (c .enum-told .given .1)) ∙ first (c .before .before)
 
+split-range-requires : tie.Need-split-range-requires
+split-range-requires c κs =
+    let h = first-held _ _ _ _ (sym (fine c)) in
+    let s = state-ranges _ _ (h .1) in
+    let r = context-ranges _ (h .2) in
+    (omega arith, s .rt, r .low, r .high)
+
 step-requires : tie.Need-step-requires
 step-requires c κs =
-    let h = first-held _ _ _ _ (sym (fine c)) in
-    let r = context-ranges _ (h .2) in
-    (h .0, h .1, r .mps, r .low, r .high)
+    let h = first-held _ _ _ _ (sym (fine (c .before))) in
+    let y = c .split-range .ensures in
+    (h .0, h .1, context-ranges _ (h .2) .mps, y .1, y .2, y .3)
 
 enum-known-bin : tie.Need-enum-known-bin
 enum-known-bin c = search needs
 
 updated-requires : tie.Need-updated-requires
-updated-requires c κs = first-held _ _ _ _ (sym (fine (c .before .before .before .before))) .2
+updated-requires c κs = first-held _ _ _ _ (sym (fine (c .before .before .before .before .before))) .2
 
 enum-known-r : tie.Need-enum-known-r
 enum-known-r c = search needs
@@ -59,22 +67,26 @@ enum-known-r c = search needs
 enum-known-r-2 : tie.Need-enum-known-r-2
 enum-known-r-2 c = search needs
 
+-- the step's answer, by the definition's split
+stepped : (c : tie.After-step) → steppedSays (c .step .result) ≡ stepping (c .before .before .before .before .before .before .before) tt
+stepped c = c .step .ensures ∙ step-is _ _ _ _ (c .before .split-range .ensures .0)
+
 returns : tie.Need-returns
 unfolding decodeOf
 returns c =
     let k = c .before in
     let s = k .before .before .before in
     let b = k .before .bin .given in
-    let e = s .before .before .before .before .before .before in
+    let e = s .before .before .before .before .before .before .before in
     ap (λ d. done (b .0 .0, b .0 .1 .0, d)) (c .updated .ensures)
-    ∙ goes-on (stepping e) (updating e) (fine (s .before)) (b .0 .0, b .0 .1 .0) (ap steppedSays (sym (b .1)) ∙ s .step .ensures)
+    ∙ goes-on (stepping e) (updating e) (fine (s .before .before)) (b .0 .0, b .0 .1 .0) (ap steppedSays (sym (b .1)) ∙ stepped s)
 
 returns-2 : tie.Need-returns-2
 unfolding decodeOf
 returns-2 c =
     let s = c .before .before .before in
-    let e = s .before .before .before .before .before .before in
-    stops-next (stepping e) (updating e) (fine (s .before)) (c .before .r .given .0 .0) (ap steppedSays (sym (c .before .r .given .1)) ∙ s .step .ensures)
+    let e = s .before .before .before .before .before .before .before in
+    stops-next (stepping e) (updating e) (fine (s .before .before)) (c .before .r .given .0 .0) (ap steppedSays (sym (c .before .r .given .1)) ∙ stepped s)
 
 returns-3 : tie.Need-returns-3
 unfolding decodeOf
@@ -87,6 +99,7 @@ decode-spec =
     good-context-requires
     guard-requires
     enum-told
+    split-range-requires
     step-requires
     enum-known-bin
     updated-requires

@@ -2,6 +2,7 @@
 use Prim.Native.Nat.{ℕ}
 use mathlib.Core.Path.{_≡_, sym, ap, _∙_}
 use mathlib.Core.Bool.{true, _&&_}
+use native.Mathlib.Omega.{arith}
 use Rattle.bits.specs.Answers.{Outcome, done}
 use Rattle.bits.specs.Bits.{payload}
 use Rattle.aec.specs.Bins.{goodContext, refusedFirst, stepOf, pairOf, updateOf, decodePairOf}
@@ -9,9 +10,9 @@ use Rattle.aec.specs.Says.{checkedSays, steppedSays}
 use Rattle.aec.specs.declared.State.{State}
 use Rattle.aec.specs.declared.Context.{Context}
 use Rattle.aec.proofs.LawsAnswers.{stops, goes-on, stops-next}
-use Rattle.aec.proofs.LawsRanges.{both, context-ranges}
+use Rattle.aec.proofs.LawsRanges.{both, state-ranges, context-ranges}
 use Rattle.aec.proofs.LawsContexts.{Predicts, pair-predicts}
-use Rattle.aec.proofs.LawsSteps.{first-held}
+use Rattle.aec.proofs.LawsSteps.{first-held, step-is}
 use borrow.Author.Needs.{needs}
 use Rattle.aec.proofs.decode_pair.Statement.{statement}
 use Rattle.aec.proofs.decode_pair.Tie as tie
@@ -49,22 +50,31 @@ good c = both _ _ (first-held _ _ _ _ (sym (fine c)) .2)
 pair-requires : tie.Need-pair-requires
 pair-requires c κs = good c
 
+predicted : (c : tie.After-pair) → Predicts (c .pair .result)
+predicted c =
+    let g = good (c .before) in
+    rw (c .pair .ensures) (pair-predicts _ _ (context-ranges _ (g .0)) (context-ranges _ (g .1)))
+
+split-range-requires : tie.Need-split-range-requires
+split-range-requires c κs =
+    let s = state-ranges _ _ (first-held _ _ _ _ (sym (fine (c .before))) .1) in
+    let r = predicted c in
+    (omega arith, s .rt, r .low, r .high)
+
 step-requires : tie.Need-step-requires
 step-requires c κs =
-    let k = c .before in
-    let h = first-held _ _ _ _ (sym (fine k)) in
-    let g = good k in
-    let r : Predicts (c .pair .result) = rw (c .pair .ensures) (pair-predicts _ _ (context-ranges _ (g .0)) (context-ranges _ (g .1))) in
-    (h .0, h .1, r .bin, r .low, r .high)
+    let h = first-held _ _ _ _ (sym (fine (c .before .before))) in
+    let y = c .split-range .ensures in
+    (h .0, h .1, predicted (c .before) .bin, y .1, y .2, y .3)
 
 enum-known-bin : tie.Need-enum-known-bin
 enum-known-bin c = search needs
 
 updated-requires : tie.Need-updated-requires
-updated-requires c κs = good (c .before .before .before .before .before) .0
+updated-requires c κs = good (c .before .before .before .before .before .before) .0
 
 updated-requires-2 : tie.Need-updated-requires-2
-updated-requires-2 c κs = good (c .before .before .before .before .before .before) .1
+updated-requires-2 c κs = good (c .before .before .before .before .before .before .before) .1
 
 enum-known-r : tie.Need-enum-known-r
 enum-known-r c = search needs
@@ -72,11 +82,12 @@ enum-known-r c = search needs
 enum-known-r-2 : tie.Need-enum-known-r-2
 enum-known-r-2 c = search needs
 
--- the step's answer, by the definition's prediction
-stepped : (c : tie.After-step) → steppedSays (c .step .result) ≡ stepping (c .before .before .before .before .before .before .before) tt
+-- the step's answer, by the definition's split and prediction
+stepped : (c : tie.After-step) → steppedSays (c .step .result) ≡ stepping (c .before .before .before .before .before .before .before .before) tt
 stepped c =
-    let a = c .before .before .before .before .before .before .before .args in
-    c .step .ensures ∙ ap (stepOf (payload (a .bytes .now) (a .count)) (a .x)) (c .before .pair .ensures)
+    let a = c .before .before .before .before .before .before .before .before .args in
+    c .step .ensures ∙ step-is _ _ (c .before .before .pair .result) _ (c .before .split-range .ensures .0)
+    ∙ ap (stepOf (payload (a .bytes .now) (a .count)) (a .x)) (c .before .before .pair .ensures)
 
 returns : tie.Need-returns
 unfolding decodePairOf
@@ -85,17 +96,17 @@ returns c =
     let k = u .before in
     let s = k .before .before .before in
     let b = k .before .bin .given in
-    let e = s .before .before .before .before .before .before .before in
+    let e = s .before .before .before .before .before .before .before .before in
     ap (λ d. done (b .0 .0, b .0 .1 .0, d, c .updated2 .result)) (u .updated .ensures)
     ∙ ap (λ d. done (b .0 .0, b .0 .1 .0, updateOf (e .args .a) (b .0 .0), d)) (c .updated2 .ensures)
-    ∙ goes-on (stepping e) (updating e) (fine (s .before .before)) (b .0 .0, b .0 .1 .0) (ap steppedSays (sym (b .1)) ∙ stepped s)
+    ∙ goes-on (stepping e) (updating e) (fine (s .before .before .before)) (b .0 .0, b .0 .1 .0) (ap steppedSays (sym (b .1)) ∙ stepped s)
 
 returns-2 : tie.Need-returns-2
 unfolding decodePairOf
 returns-2 c =
     let s = c .before .before .before in
-    let e = s .before .before .before .before .before .before .before in
-    stops-next (stepping e) (updating e) (fine (s .before .before)) (c .before .r .given .0 .0) (ap steppedSays (sym (c .before .r .given .1)) ∙ stepped s)
+    let e = s .before .before .before .before .before .before .before .before in
+    stops-next (stepping e) (updating e) (fine (s .before .before .before)) (c .before .r .given .0 .0) (ap steppedSays (sym (c .before .r .given .1)) ∙ stepped s)
 
 returns-3 : tie.Need-returns-3
 unfolding decodePairOf
@@ -109,6 +120,7 @@ decode-pair-spec =
     guard-requires
     enum-told
     pair-requires
+    split-range-requires
     step-requires
     enum-known-bin
     updated-requires

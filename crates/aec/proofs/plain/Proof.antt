@@ -6,7 +6,8 @@ use mathlib.Core.Bool.{true}
 use Rattle.aec.specs.Bins.{refusedFirst}
 use Rattle.aec.specs.Says.{checkedSays}
 use Rattle.aec.proofs.LawsAnswers.{goes, stops}
-use Rattle.aec.proofs.LawsSteps.{first-held}
+use Rattle.aec.proofs.LawsRanges.{state-ranges}
+use Rattle.aec.proofs.LawsSteps.{first-held, step-is}
 use borrow.Author.Needs.{needs}
 use Rattle.aec.proofs.plain.Statement.{statement}
 use Rattle.aec.proofs.plain.Tie as tie
@@ -20,21 +21,27 @@ enum-told c = search needs
 fine : (c : tie.After-enum-told) → let a = c .before .before .before .before .args in done tt ≡ refusedFirst (a .bytes .now) (a .count) (a .x) true
 fine c = ap checkedSays (sym (c .enum-told .given .1)) ∙ c .before .before .guard .ensures
 
+split-range-requires : tie.Need-split-range-requires
+split-range-requires c κs =
+    let e = c .before .before .before .before in
+    let r = state-ranges _ _ (first-held _ _ _ _ (sym (fine c)) .1) in
+    (omega arith, r .rt, e .pre .0, e .pre .1)
+
 step-requires : tie.Need-step-requires
 step-requires c κs =
-    let e = c .before .before .before .before in
-    let h = first-held _ _ _ _ (sym (fine c)) in
-    (h .0, h .1, omega arith, e .pre .0, e .pre .1)
+    let h = first-held _ _ _ _ (sym (fine (c .before))) in
+    let y = c .split-range .ensures in
+    (h .0, h .1, omega arith, y .1, y .2, y .3)
 
 enum-known-r : tie.Need-enum-known-r
 enum-known-r c = search needs
 
 returns : tie.Need-returns
-returns c = c .step .ensures ∙ goes _ (fine (c .before))
+returns c = c .step .ensures ∙ step-is _ _ _ _ (c .before .split-range .ensures .0) ∙ goes _ (fine (c .before .before))
 
 returns-2 : tie.Need-returns-2
 returns-2 c = stops (c .before .r .given .0 .0) _ (ap checkedSays (sym (c .before .r .given .1)) ∙ c .before .before .before .guard .ensures)
 
 pub plain-spec : {M : Type 1} → statement M
 plain-spec =
-    tie.close (tie.spec guard-requires enum-told step-requires enum-known-r returns returns-2)
+    tie.close (tie.spec guard-requires enum-told split-range-requires step-requires enum-known-r returns returns-2)
