@@ -723,7 +723,7 @@ static inline split split_range(bin_state x, uint32_t q)
 
 static inline bool misses(bin_state x, split r)
 {
-    return x.vs < r.s || (r.s == x.vs && r.t <= x.vt);
+    return r.s == x.vs ? r.t <= x.vt : x.vs < r.s;
 }
 
 static inline uint32_t unpredicted(payload y, bin_state x, split r, bin_state *next)
