@@ -7,7 +7,7 @@ MANIFEST = --manifest-path rust/Cargo.toml --release --locked
 
 # The proved static library, target/staticlib/libavsplus.a.
 library:
-	rt staticlib avsplus | tail -2
+	rt staticlib avsplus >/dev/null
 
 # The command line, rust/target/release/avsplus.
 program: library

@@ -65,38 +65,44 @@ typedef struct {
 /* ── recordings ── */
 
 /* Files a stream. Done: count is its units, and rows[0 .. 3 * count) hold three words for each; later words stay.
- * FULL where words is less than 3 * count. */
+ * Refused: the first refusal from the left with its place, all words stay. FULL, last of all, where words is less than three
+ * times the units. */
 avsplus_answer avsplus_file(const uint8_t *stream, size_t length, uint32_t *rows, size_t words);
 
-/* Whether row i exists: rows holds it, and its body ends within the stream. */
+/* Whether row i exists: rows holds it whole, and its body ends within the stream. Any words will do for rows. */
 bool avsplus_row_exists(const uint8_t *stream, size_t length, const uint32_t *rows, size_t words, size_t i);
 
 /* Where the body of row i lies in the stream: offset 0 and length 0 where there is no such row. */
 avsplus_part avsplus_row_body(const uint8_t *stream, size_t length, const uint32_t *rows, size_t words, size_t i);
 
-/* The sequence header of group g, counted from 0: AVSPLUS_HEADER_NUMBERS numbers. The stream's own refusal comes first, then NO ROW
- * where it has no such group, then FULL where fewer numbers are lent. */
+/* The sequence header of group g, counted from 0: AVSPLUS_HEADER_NUMBERS numbers, later ones stay. The stream's own refusal with
+ * its place comes first, then NO ROW where it has no such group, then FULL where fewer numbers are lent. */
 avsplus_answer avsplus_group_header(const uint8_t *stream, size_t length, size_t g, uint64_t *numbers, size_t lent);
 
-/* The display extension of group g: AVSPLUS_DISPLAY_NUMBERS numbers, or done with count 0 where it is not given. */
+/* The display extension of group g: AVSPLUS_DISPLAY_NUMBERS numbers, or done with count 0 where it is not given. Refused as the
+ * header is. */
 avsplus_answer avsplus_group_display(const uint8_t *stream, size_t length, size_t g, uint64_t *numbers, size_t lent);
 
-/* The colour of group g's display extension: AVSPLUS_COLOUR_NUMBERS numbers, or done with count 0 where it is not given. */
+/* The colour of group g's display extension: AVSPLUS_COLOUR_NUMBERS numbers, or done with count 0 where it is not given, as where
+ * there is no display extension. Refused as the header is. */
 avsplus_answer avsplus_group_colour(const uint8_t *stream, size_t length, size_t g, uint64_t *numbers, size_t lent);
 
 /* ── bodies ── */
 
-/* A sequence header's body: AVSPLUS_HEADER_NUMBERS numbers. FULL where the body is good and fewer are lent. */
+/* A sequence header's body: AVSPLUS_HEADER_NUMBERS numbers, later ones stay. Refused with SHORT, MARKER, VALUE or STUFFING, or
+ * with FULL where the body is good and fewer numbers are lent. */
 avsplus_answer avsplus_sequence_header(const uint8_t *body, size_t length, uint64_t *numbers, size_t lent);
 
-/* An extension's body, in a group's head or after a picture header: its number, 1 number. */
+/* An extension's body, in a group's head or after a picture header: 1 number, that of the extension. Refused as a header's body
+ * is; number 2 is a display extension in a head only. */
 avsplus_answer avsplus_extension(const uint8_t *body, size_t length, bool in_head, uint64_t *numbers, size_t lent);
 
 /* The same body as a display extension: AVSPLUS_DISPLAY_NUMBERS numbers, or done with count 0 where it is good and another
  * extension. */
 avsplus_answer avsplus_display(const uint8_t *body, size_t length, bool in_head, uint64_t *numbers, size_t lent);
 
-/* The colour of a display extension: AVSPLUS_COLOUR_NUMBERS numbers, or done with count 0 where it is not given. */
+/* The colour of the same body as a display extension: AVSPLUS_COLOUR_NUMBERS numbers, or done with count 0 where it is not
+ * given. */
 avsplus_answer avsplus_display_colour(const uint8_t *body, size_t length, bool in_head, uint64_t *numbers, size_t lent);
 
 /* The same body as a copyright extension: AVSPLUS_COPYRIGHT_NUMBERS numbers, or done with count 0 where it is good and another
@@ -111,8 +117,8 @@ avsplus_answer avsplus_display_ratio(uint32_t aspect, uint64_t *numbers, size_t 
 
 /* ── payloads ── */
 
-/* Removes escape bits. Done: count bits, packed into output, the last byte filled with zeros; later bytes stay.
- * TOO LONG, then FULL where room is less than length. */
+/* Removes escape bits from a payload. Done: count bits, packed into output, the last byte filled with zeros; later bytes stay.
+ * Refused with TOO LONG, then with FULL where room is less than length; all bytes stay. */
 avsplus_answer avsplus_remove_escapes(const uint8_t *raw, size_t length, uint8_t *output, size_t room);
 
 #define AVSPLUS_NO_NUMBER UINT32_MAX       /* is no Exp-Golomb number */
@@ -130,7 +136,8 @@ typedef struct {
     size_t place;   /* the place after the number; for a refusal the place that was asked for */
 } avsplus_signed_number;
 
-/* The Exp-Golomb number at a bit place of a payload, which is the first bits bits of bytes, or all where there are fewer. */
+/* The Exp-Golomb number at a bit place of a payload. Here and below a payload is the first `bits` bits of bytes, or all where
+ * there are fewer. Refused with TOO LONG, then with VALUE or PAYLOAD OUT, whichever the bits meet first. */
 avsplus_golomb avsplus_unsigned_golomb(const uint8_t *bytes, size_t length, size_t bits, size_t place);
 
 /* The same as a signed number. */
@@ -156,10 +163,10 @@ typedef struct {
 
 typedef struct {
     uint32_t status;
-    avsplus_state state; /* for a refusal the state that was lent */
+    avsplus_state state; /* for a refusal the state that was given */
 } avsplus_started;
 
-/* State and contexts are those after the bin; for a refusal those that were lent, and bin is AVSPLUS_NO_BIN. */
+/* State and contexts are those after the bin; for a refusal those that were given, and bin is AVSPLUS_NO_BIN. */
 typedef struct {
     uint32_t status;
     uint32_t bin;
@@ -184,20 +191,21 @@ typedef struct {
 /* A fresh context. */
 avsplus_context avsplus_fresh_context(void);
 
-/* Starts on a payload. The state that is lent comes back where the payload is refused. */
+/* Starts on a payload. Refused with TOO LONG or PAYLOAD OUT; the state that was given comes back then. */
 avsplus_started avsplus_start(const uint8_t *bytes, size_t length, size_t bits, avsplus_state state);
 
-/* A bin by one context. */
+/* A bin by one context, with the state and the context after it. Refused, as all bins are, with TOO LONG, then with BAD STATE
+ * where a state or a context is outside its ranges, then with PAYLOAD OUT. */
 avsplus_bin avsplus_decode(const uint8_t *bytes, size_t length, size_t bits, avsplus_state state, avsplus_context context);
 
-/* A bin by two contexts. */
+/* A bin by two contexts, with the state and both contexts after it. */
 avsplus_pair_bin avsplus_decode_pair(const uint8_t *bytes, size_t length, size_t bits, avsplus_state state,
                                      avsplus_context first, avsplus_context second);
 
-/* A bypass bin. */
+/* A bypass bin, with the state after it. */
 avsplus_plain_bin avsplus_bypass(const uint8_t *bytes, size_t length, size_t bits, avsplus_state state);
 
-/* A stuffing bin. */
+/* A stuffing bin, with the state after it. */
 avsplus_plain_bin avsplus_stuffing(const uint8_t *bytes, size_t length, size_t bits, avsplus_state state);
 
 /* ── start codes ── */

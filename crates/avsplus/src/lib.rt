@@ -316,6 +316,7 @@ pub extern "C" fn avsplus_file(stream: &[u8], rows: &mut [u32]) -> Answer
     }
 }
 
+// Whether row i exists.
 #[no_mangle]
 pub extern "C" fn avsplus_row_exists(stream: &[u8], rows: &[u32], i: usize) -> bool
     ensures { λ r. ⌜ r ≡ rowExists (now (stream .entry)) (now (rows .entry)) i ⌝ }
@@ -603,6 +604,7 @@ pub extern "C" fn avsplus_signed_golomb(bytes: &[u8], bits: usize, place: usize)
 
 // ── bins ──
 
+// A fresh context.
 #[no_mangle]
 pub extern "C" fn avsplus_fresh_context() -> Context
     ensures { λ r. ⌜ r ≡ freshContext ⌝ }
