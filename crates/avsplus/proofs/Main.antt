@@ -8,6 +8,7 @@ use native.Mathlib.Omega.{arith}
 use lib.Dec.{eqb}
 use lib.IntN.{ℤ, pos, negsuc, negℤ}
 use Rattle.bits.specs.Answers.{Outcome, done, refused, mapDone}
+use Rattle.bits.proofs.Outcomes.{not-done, done-one}
 use Rattle.payload.specs.Golomb.{Numbered, golomb, standsFor, withSign, signedGolomb}
 use Rattle.payload.proofs.GolombLaws.{golomb-bound}
 use Rattle.aec.specs.Bins.{bypassOf, stuffingOf, decodeOf, decodePairOf}
@@ -40,11 +41,8 @@ signed-small n h = halves (eqb (n % 2) 1)
 
 -- the unsigned number behind a signed one
 unsigned : (o : Outcome (Numbered ℕ)) (m : Numbered ℤ) → mapDone withSign o ≡ done m → (n : Numbered ℕ) × (o ≡ done n) × (standsFor (n .number) ≡ m .number)
-unsigned (done n) m e = (n, refl, numbers e)
-  where
-    numbers : done (withSign n) ≡ done m → standsFor (n .number) ≡ m .number
-    numbers e = cc
-unsigned (refused number carried) m e = let z : _≡_ {A = ℕ} 0 1 = cc in absurd (omega arith)
+unsigned (done n) m e = (n, refl, ap (λ k. k .number) (done-one e))
+unsigned (refused number carried) m e = not-done e
 
 pub signed-marked : (bytes : List ℕ) (bits place : ℕ) (m : Numbered ℤ) → signedGolomb bytes bits place ≡ done m → m .number ≢ noSignedNumber
 unfolding signedGolomb

@@ -11,6 +11,7 @@ use native.Mathlib.Omega.{arith}
 use Rattle.bits.specs.Answers.{Outcome, done, refused, mapDone, NO-CODE, CUT, OVERLAP, UNKNOWN, SHORT, VALUE, STUFFING, TWICE, UNENDED, FULL, TOO-LONG}
 use Rattle.bits.specs.Lists.{All}
 use Rattle.bits.proofs.Lists.{by-test, one-to-one}
+use Rattle.bits.proofs.Outcomes.{not-done, not-refused}
 use Rattle.layout.specs.Answers.{faultNumber, headerResult, extensionResult, isDisplay, displayShort, displayOf}
 use Rattle.layout.specs.Reading.{Result, good, bad, allZero}
 use Rattle.layout.specs.declared.Place.the-variants as place
@@ -22,7 +23,7 @@ use Rattle.grammar.specs.declared.SliceRule.{SliceRule}
 use Rattle.grammar.specs.declared.State.{State}
 use Rattle.grammar.specs.declared.State.the-variants.{Start, Head, Picture as InPicture, Slices, Ended, Closed}
 use Rattle.grammar.specs.Reader.{Step, go, stop, guard, choose, by, headExtension, pictureStep, sliceStep, endingStep, table, unknown, step, final, isNil, cut, addRow, continue, rowAt, fileFrom, filingOfAny, filing, filingInto, within, longestStream}
-use Rattle.grammar.proofs.Filing.{filed-iff, not-done, unitOf, units-of-placed}
+use Rattle.grammar.proofs.Filing.{filed-iff, unitOf, units-of-placed}
 use Rattle.grammar.specs.Refusals.{RefusesInto}
 use Rattle.grammar.proofs.Refusals.{into-iff}
 use Rattle.grammar.proofs.Unique.{same-reading}
@@ -218,7 +219,7 @@ within-full-is : (l : ℕ) (o : Outcome (List Row)) → Never o → within l o �
 within-full-is l (done rs) h e =
     by-test (ltb l (3 * length rs))
     (λ t. (rs, refl, ltb-true l (3 * length rs) t))
-    (λ f. let d : done rs ≡ refused FULL (0 ∷ []) = rw f at e in not-done (sym d))
+    (λ f. let d : done rs ≡ refused FULL (0 ∷ []) = rw f at e in not-refused d)
 within-full-is l (refused n carried) h e = absurd (h (cc))
 
 totals-is : (o : Outcome (List Row)) (n : ℕ) → mapDone totals o ≡ done (record { units = n }) → (rs : List Row) × (o ≡ done rs) × (length rs ≡ n)

@@ -9,12 +9,12 @@ use native.Mathlib.Numerals.{add-one, add-two}
 use native.Mathlib.Omega.{arith}
 use Rattle.bits.specs.Answers.{Outcome, done, refused, mapDone, NO-CODE, UNENDED}
 use Rattle.bits.proofs.Lists.{by-test}
+use Rattle.bits.proofs.Outcomes.{not-done}
 use Rattle.startcode.specs.Prefix.{begins}
 use Rattle.grammar.specs.Rows.{Row, words}
 use Rattle.grammar.specs.Reader.{final, addRow, filingOfAny, longestStream}
 use Rattle.grammar.specs.declared.State.{State}
 use Rattle.grammar.specs.declared.State.the-variants.{Start}
-use Rattle.grammar.proofs.Filing.{not-done}
 use Rattle.grammar.proofs.Walk.{left, left-end}
 use Rattle.filing.specs.Filing.{wordsAfter}
 use Rattle.filing.specs.Inside.{Writable}

@@ -11,6 +11,7 @@ use native.Mathlib.Omega.{arith}
 use Rattle.bits.specs.Answers.{Outcome, done, refused}
 use Rattle.bits.specs.Lists.{All}
 use Rattle.bits.proofs.Lists.{by-test}
+use Rattle.bits.proofs.Outcomes.{not-done}
 use Rattle.layout.specs.declared.Place.{Place}
 use Rattle.layout.specs.declared.Place.the-variants as place
 use Rattle.startcode.specs.Prefix.{begins}
@@ -41,9 +42,6 @@ group-units g = ap (λ (l : List StreamUnit). g .head ∷ l) (map-append unitOf 
 
 pub units-of-placed : (r : Reading) → map unitOf (placedUnits r) ≡ units r
 units-of-placed r = map-append unitOf (concatMap groupRow (r .groups)) (map (placed place.Picture) (r .ending)) ∙ rw (map-concat unitOf groupRow groupUnits group-units (r .groups), map-placed place.Picture (r .ending))
-
-pub not-done : {P : Type 0} {n : ℕ} {carried : List ℕ} {rs : List Row} → refused n carried ≡ done rs → P
-not-done e = let z : _≡_ {A = ℕ} 0 1 = cc in absurd (omega arith)
 
 added : (r : Row) (a : Outcome (List Row)) (rs : List Row) → addRow r a ≡ done rs → (rs′ : List Row) × (a ≡ done rs′) × (rs ≡ r ∷ rs′)
 added r (done rs′) rs e = (rs′, refl, cc)

@@ -11,6 +11,7 @@ use borrow.Author.Tests.{ltb-true, ltb-false, lt-ltb, le-ltb}
 use Rattle.bits.specs.Answers.{Outcome, done, refused, NO-CODE, CUT, OVERLAP, UNENDED, FULL, TOO-LONG}
 use Rattle.bits.specs.Lists.{All}
 use Rattle.bits.proofs.Lists.{by-test}
+use Rattle.bits.proofs.Outcomes.{not-refused}
 use Rattle.startcode.specs.Prefix.{begins}
 use Rattle.grammar.specs.Lists.{concatMap}
 use Rattle.grammar.specs.Grammar.{StreamUnit, bytes, Alone, Reading, units}
@@ -47,11 +48,8 @@ record Stuck (all : List (List ℕ)) (n : ℕ) (carried : List ℕ) : Type 0 whe
   now : StopsNow state rest n
   place : carried ≡ length (concatMap bytes us) ∷ []
 
-refused-not : {P : Type 0} {rs : List Row} {n : ℕ} {carried : List ℕ} → done rs ≡ refused n carried → P
-refused-not e = let z : _≡_ {A = ℕ} 0 1 = cc in absurd (omega arith)
-
 added : (r : Row) (a : Outcome (List Row)) (n : ℕ) (carried : List ℕ) → addRow r a ≡ refused n carried → a ≡ refused n carried
-added r (done rs) n carried e = refused-not e
+added r (done rs) n carried e = not-refused e
 added r (refused m c) n carried e = e
 
 concat-more : (us : List StreamUnit) (u : StreamUnit) → concatMap bytes (us ++ u ∷ []) ≡ concatMap bytes us ++ bytes u
@@ -68,7 +66,7 @@ chunks-more us u cs = ap (λ (l : List (List ℕ)). l ++ cs) (map-append chunk u
 module _ (all : List (List ℕ)) (n : ℕ) (carried : List ℕ) where
   stuck : (cs : List (List ℕ)) (us : List StreamUnit) (q : State) (at : ℕ) → At us q → all ≡ map chunk us ++ cs → at ≡ length (concatMap bytes us) → fileFrom cs q at ≡ refused n carried → Stuck all n carried
   unfolding fileFrom
-  stuck [] us q at a i p e = by-test (final q) (λ t. refused-not (rw t at e)) (λ f. let g : refused UNENDED (at ∷ []) ≡ refused n carried = rw f at e in
+  stuck [] us q at a i p e = by-test (final q) (λ t. not-refused (rw t at e)) (λ f. let g : refused UNENDED (at ∷ []) ≡ refused n carried = rw f at e in
       record { us = us; state = q; rest = []; is = i; at = a; now = no-chunk refl f (cc); place = cc })
   stuck ([] ∷ []) us q at a i p e = record { us = us; state = q; rest = [] ∷ []; is = i; at = a; now = last-empty refl (cc); place = cc }
   stuck ([] ∷ c ∷ cs) us q at a i p e = record { us = us; state = q; rest = [] ∷ c ∷ cs; is = i; at = a; now = empty c cs refl (cc); place = cc }
@@ -194,7 +192,7 @@ into-refuses s lent n carried e = by-answer (filing s) refl e
         let i : length rs ≡ length (units (k .1 .0)) = ap length (k .1 .2) ∙ row-a-unit (k .1 .0) in
         let l = ltb-true lent (3 * length rs) t in
         (0, cc, full (k .0) (k .1 .0) (k .1 .1) (omega arith) (cc) refl))
-        (λ g. refused-not (rw g at f))
+        (λ g. not-refused (rw g at f))
 
 into-by : (s : List ℕ) (lent n at : ℕ) → RefusesInto s lent n at → filingInto s lent ≡ refused n (at ∷ [])
 unfolding filingInto

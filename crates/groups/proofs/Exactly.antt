@@ -9,6 +9,7 @@ use native.Mathlib.Omega.{arith}
 use Rattle.bits.specs.Answers.{Outcome, done, refused, NO-ROW}
 use Rattle.bits.specs.Lists.{All}
 use Rattle.bits.proofs.Lists.{by-test}
+use Rattle.bits.proofs.Outcomes.{not-done, not-refused}
 use Rattle.startcode.specs.Prefix.{begins}
 use Rattle.grammar.specs.Grammar.{StreamUnit, bytes, Group, Reading, Reads, units, IsGroup}
 use Rattle.grammar.specs.Rows.{Row, rows}
@@ -25,9 +26,6 @@ use Rattle.groups.specs.Readings.{GroupIs, Numbered, GroupOfReading, Gro
 use Rattle.groups.specs.declared.GroupAnswer.{GroupAnswer}
 use Rattle.groups.specs.declared.GroupAnswer.the-variants as answer
 use Rattle.groups.proofs.Readings.{same-record, Paired, groups-are, number-given, given-number, no-number}
-
-clash : {P : Type 0} {n : ℕ} {carried : List ℕ} {A : Type 0} {x : A} → refused n carried ≡ done x → P
-clash e = let z : _≡_ {A = ℕ} 0 1 = cc in absurd (omega arith)
 
 -- ── a stream with a reading ──
 
@@ -74,7 +72,7 @@ module _ (s : List ℕ) (r : Reading) (short : length s ≤ longestStream) (h : 
 number-place : (g : ℕ) (xs : List GroupRecord) (n place : ℕ) → groupNumber g xs ≡ refused n (place ∷ []) → ⊥
 unfolding groupNumber
 number-place g [] n place e = let z : _≡_ {A = List ℕ} [] (place ∷ []) = cc in let y : _≡_ {A = ℕ} 0 1 = cc in omega arith
-number-place zero (x ∷ xs) n place e = clash (sym e)
+number-place zero (x ∷ xs) n place e = not-refused e
 number-place (suc g) (x ∷ xs) n place e = number-place g xs n place e
 
 module _ (g : ℕ) (xs : List GroupRecord) (n place : ℕ) where
@@ -95,13 +93,13 @@ no-place : {P A : Type 0} {m p n : ℕ} {ps : List ℕ} → _≡_ {A = Outcome A
 no-place {p = p} {ps = ps} e = let z : _≡_ {A = List ℕ} (p ∷ ps) [] = cc in let y : _≡_ {A = ℕ} 0 1 = cc in absurd (omega arith)
 
 added : (r : Row) (o : Outcome (List Row)) (n : ℕ) → addRow r o ≡ refused n [] → o ≡ refused n []
-added r (done rs) n e = clash (sym e)
+added r (done rs) n e = not-refused e
 added r (refused m carried) n e = let p : m ≡ n = cc in let q : carried ≡ [] = cc in rw (p, q)
 
 -- filing's refusals carry a place
 file-place : (cs : List (List ℕ)) (q : State) (at n : ℕ) → fileFrom cs q at ≡ refused n [] → ⊥
 unfolding fileFrom
-file-place [] q at n e = by-test (final q) (λ t. clash (sym (rw t at e))) (λ f. no-place (rw f at e))
+file-place [] q at n e = by-test (final q) (λ t. not-refused (rw t at e)) (λ f. no-place (rw f at e))
 file-place ([] ∷ cs) q at n e = no-place e
 file-place ((c ∷ b) ∷ cs) q at n e = by-step (step q u) (λ q′. file-place cs q′ (at + length (bytes u)) n) e
   where
@@ -131,7 +129,7 @@ module _ (s : List ℕ) (g : ℕ) where
   -- a record or NO ROW is of a stream that has a reading
   record-read : (x : GroupRecord) → groupAt s g ≡ done x → (o : Outcome (List Row)) → filing s ≡ o → (length s ≤ longestStream) × ((r : Reading) × Reads s r)
   record-read x e (done rs) f = let k = filed-iff s rs .0 f in (k .0, (k .1 .0, k .1 .1))
-  record-read x e (refused n carried) f = clash (sym (by-filing (refused n carried) f) ∙ e)
+  record-read x e (refused n carried) f = not-done (sym (by-filing (refused n carried) f) ∙ e)
 
   row-read : groupAt s g ≡ refused NO-ROW [] → (o : Outcome (List Row)) → filing s ≡ o → (length s ≤ longestStream) × ((r : Reading) × Reads s r)
   row-read e (done rs) f = let k = filed-iff s rs .0 f in (k .0, (k .1 .0, k .1 .1))
@@ -156,12 +154,12 @@ pub group-says-one : (a b : GroupAnswer) → groupSays a ≡ groupSays b → a �
 group-says-one (answer.Group h d) (answer.Group k f) e =
     let same : _≡_ {A = GroupRecord} (record { header = h; display = d }) (record { header = k; display = f }) = cc in
     ap (λ (x : GroupRecord). answer.Group (x .header) (x .display)) same
-group-says-one (answer.Group h d) answer.NoRow e = clash (sym e)
-group-says-one (answer.Group h d) (answer.Refused r) e = clash (sym e)
-group-says-one answer.NoRow (answer.Group h d) e = clash e
+group-says-one (answer.Group h d) answer.NoRow e = not-refused e
+group-says-one (answer.Group h d) (answer.Refused r) e = not-refused e
+group-says-one answer.NoRow (answer.Group h d) e = not-done e
 group-says-one answer.NoRow answer.NoRow e = refl
 group-says-one answer.NoRow (answer.Refused r) e = let z : _≡_ {A = List ℕ} [] (r .place ∷ []) = cc in let y : _≡_ {A = ℕ} 0 1 = cc in absurd (omega arith)
-group-says-one (answer.Refused r) (answer.Group h d) e = clash e
+group-says-one (answer.Refused r) (answer.Group h d) e = not-done e
 group-says-one (answer.Refused r) answer.NoRow e = let z : _≡_ {A = List ℕ} [] (r .place ∷ []) = cc in let y : _≡_ {A = ℕ} 0 1 = cc in absurd (omega arith)
 group-says-one (answer.Refused r) (answer.Refused q) e =
     let n : reasonNumber (r .reason) ≡ reasonNumber (q .reason) = cc in

@@ -13,6 +13,7 @@ use Rattle.bits.specs.Lists.{All}
 use Rattle.bits.specs.declared.Read.{Read}
 use Rattle.bits.specs.declared.Read.the-variants.{Value, Missing, TooWide}
 use Rattle.bits.proofs.Lists.{by-test, absent, all-append, all-map}
+use Rattle.bits.proofs.Outcomes.{not-done, not-refused}
 use Rattle.layout.specs.Answers.{answerOf, recordOf, headerOf, extensionResult, extensionOf, byNumber, copyrightOf, numberOf, isDisplay, isTwo}
 use Rattle.layout.specs.Answers as answers
 use Rattle.layout.specs.Obeys.{DisplayBody, plain, coloured}
@@ -224,9 +225,6 @@ groups-are (g ∷ gs) e h k =
       (x .1, r .2),
     )
 
-not-done : {P : Type 0} {n : ℕ} {carried : List ℕ} {x : GroupRecord} → refused n carried ≡ done x → P
-not-done e = let z : _≡_ {A = ℕ} 0 1 = cc in absurd (omega arith)
-
 later : (g : ℕ) (first : Group) (gs : List Group) (group : Group) → Numbered g gs group → Numbered (suc g) (first ∷ gs) group
 later g first gs group n = record { before = first ∷ n .before; after = n .after; is = ap (λ (l : List Group). first ∷ l) (n .is); count = ap suc (n .count) }
 
@@ -252,5 +250,5 @@ unfolding groupNumber
 no-number g [] [] p = ((λ e. omega arith), λ h. refl)
 no-number g [] (x ∷ xs) p = absurd p
 no-number g (a ∷ gs) [] p = absurd p
-no-number zero (a ∷ gs) (x ∷ xs) p = ((λ e. not-done (sym e)), λ h. absurd (omega arith))
+no-number zero (a ∷ gs) (x ∷ xs) p = ((λ e. not-refused e), λ h. absurd (omega arith))
 no-number (suc g) (a ∷ gs) (x ∷ xs) p = let r = no-number g gs xs (p .1) in ((λ e. let k = r .0 e in omega arith), λ h. r .1 (omega arith))

@@ -10,6 +10,7 @@ use borrow.Author.Tests.{ltb-true, ltb-false}
 use native.Mathlib.Omega.{arith}
 use Rattle.bits.specs.Answers.{Outcome, done, refused, mapDone, NO-ROW}
 use Rattle.bits.proofs.Lists.{by-test}
+use Rattle.bits.proofs.Outcomes.{not-done, not-refused}
 use Rattle.startcode.specs.Prefix.{begins, nextPrefix}
 use Rattle.startcode.proofs.Laws.{search-start, search-hit}
 use Rattle.grammar.specs.Grammar.{StreamUnit}
@@ -21,9 +22,6 @@ use Rattle.groups.specs.declared.Begins.{Begins}
 use Rattle.groups.specs.declared.InHead.{InHead}
 use Rattle.groups.specs.declared.Display.the-variants.{NotGiven}
 use Rattle.groups.specs.Inside.{unitsFrom, Here}
-
-not-done : {P : Type 0} {n m : ℕ} {carried : List ℕ} → done n ≡ refused m carried → P
-not-done e = let z : _≡_ {A = ℕ} 0 1 = cc in absurd (omega arith)
 
 from-chunks : (s : List ℕ) (at : ℕ) (chunks : List (List ℕ)) → cut (drop at s) .chunks ≡ chunks → unitsFrom s at ≡ unitsIn chunks
 unfolding unitsFrom
@@ -92,8 +90,8 @@ pub here-start : (s : List ℕ) (n : ℕ) → done n ≡ mapDone length (filing 
 unfolding filing filingOfAny
 here-start s n e =
     by-test (ltb longestStream (length s))
-    (λ t. not-done (rw t at e))
-    (λ f. by-test (begins s) (λ b. record { inside = omega arith; prefix = λ k. b }) (λ b. not-done (rw (f, b) at e)))
+    (λ t. not-refused (rw t at e))
+    (λ f. by-test (begins s) (λ b. record { inside = omega arith; prefix = λ k. b }) (λ b. not-refused (rw (f, b) at e)))
 
 -- ── a group's head ──
 
@@ -144,10 +142,10 @@ count-less (suc n) x xs h = ap (λ (k : ℕ). groupNumber k xs) (omega arith)
 
 from-done : {n : ℕ} (o : Outcome (List Row)) (x : Outcome GroupRecord) → done n ≡ mapDone length o → x ≡ unlessRefused o x
 from-done (done rows) x e = refl
-from-done (refused m carried) x e = not-done e
+from-done (refused m carried) x e = not-refused e
 
 from-refused : (n : ℕ) (carried : List ℕ) (o : Outcome (List Row)) (x : Outcome GroupRecord) → refused n carried ≡ mapDone length o → refused n carried ≡ unlessRefused o x
-from-refused n carried (done rows) x e = not-done (sym e)
+from-refused n carried (done rows) x e = not-done e
 from-refused n carried (refused m carried′) x e = let p : n ≡ m = cc in let q : carried ≡ carried′ = cc in rw (p, q)
 
 module _ (s : List ℕ) (g : ℕ) where

@@ -3,7 +3,6 @@ use Prim.Native.Nat.{ℕ}
 use mathlib.Core.Path.{_≡_, refl, sym, ap, _∙_}
 use mathlib.Core.List.{List, [], _∷_}
 use mathlib.Core.Bool.{cond}
-use native.Mathlib.Omega.{arith}
 use lib.Dec.{eqb, ltb}
 use lib.IntN.{ℤ}
 use lib.ListN.{length, drop}
@@ -11,6 +10,7 @@ use Rattle.bits.specs.Answers.{Outcome, done, refused, VALUE, FULL, TOO-LONG}
 use Rattle.bits.specs.Bits.{bitsIn, payload, pack}
 use Rattle.bits.specs.Lists.{All}
 use Rattle.bits.proofs.Lists.{all-append, all-take, by-test, one-to-one}
+use Rattle.bits.proofs.Outcomes.{not-done}
 use Rattle.bits.proofs.Laws.{Binary, all-in}
 use Rattle.bits.proofs.Main.{unpacked}
 use Rattle.payload.specs.Escape.{kept, copied, unescaped, removal, outputAfter, removedSays}
@@ -37,10 +37,10 @@ done-count : (raw : List ℕ) (room count : ℕ) → removal raw room ≡ done c
 unfolding removal
 done-count raw room count e =
     by-test (ltb 65536 (length raw))
-    (λ t. let q : refused TOO-LONG [] ≡ done count = rw t at e in let z : _≡_ {A = ℕ} 0 1 = cc in absurd (omega arith))
+    (λ t. let q : refused TOO-LONG [] ≡ done count = rw t at e in not-done q)
     (λ f.
     by-test (ltb room (length raw))
-    (λ t. let q : refused FULL [] ≡ done count = rw (f, t) at e in let z : _≡_ {A = ℕ} 0 1 = cc in absurd (omega arith))
+    (λ t. let q : refused FULL [] ≡ done count = rw (f, t) at e in not-done q)
     (λ g. let q : done (length (unescaped raw)) ≡ done count = rw (f, g) at e in cc))
 
 pub removed-payload : (raw output : List ℕ) (count : ℕ) → removal raw (length output) ≡ done count →

@@ -13,6 +13,7 @@ use Rattle.bits.specs.Bits.{payload, readAt}
 use Rattle.bits.specs.declared.Read.{Read}
 use Rattle.bits.specs.declared.Read.the-variants as read
 use Rattle.bits.proofs.Lists.{by-test}
+use Rattle.bits.proofs.Outcomes.{not-done}
 use Rattle.bits.proofs.Laws.{length-payload}
 use Rattle.bits.proofs.Main.{read-exactly}
 use Rattle.payload.specs.Golomb.{Numbered, zerosOn, numberOf, golombAfter, golomb}
@@ -118,5 +119,5 @@ module _ (bytes : List ℕ) (count place : ℕ) where
   unfolding golomb
   golomb-bound m e =
       by-test (ltb 65536 (length bytes))
-      (λ t. let q : refused TOO-LONG [] ≡ done m = rw t at e in let k : _≡_ {A = ℕ} 0 1 = cc in absurd (omega arith))
+      (λ t. let q : refused TOO-LONG [] ≡ done m = rw t at e in not-done q)
       (λ f. after-bound (zerosOn 0 place (drop place (payload bytes count))) m refl (rw f at e))

@@ -1,12 +1,14 @@
 -- Exp-Golomb numbers: "z zeros, a 1, then z bits of value b; number = 2^z - 1 + b, answered with the place after it".
-use Prim.Native.Nat.{ℕ, zero, suc, _+_, _-_, _/_, _%_, _^_}
-use mathlib.Core.List.{List, [], _∷_}
+use Prim.Native.Nat.{ℕ, zero, suc, _+_, _-_, _/_, _%_, _^_, _≤_, _<_}
+use mathlib.Core.Path.{_≡_}
+use mathlib.Core.Logic.{_⊎_}
+use mathlib.Core.List.{List, [], _∷_, _++_}
 use mathlib.Core.Bool.{cond}
 use lib.Dec.{eqb, leb, ltb}
 use lib.IntN.{ℤ, pos, negℤ}
-use lib.ListN.{length, drop}
+use lib.ListN.{length, drop, replicate}
 use Rattle.bits.specs.Answers.{Outcome, done, refused, refuseIf, mapDone, VALUE, TOO-LONG, PAYLOAD-OUT}
-use Rattle.bits.specs.Bits.{payload, readAt}
+use Rattle.bits.specs.Bits.{bitsIn, payload, readAt}
 use Rattle.bits.specs.declared.Read.{Read}
 use Rattle.bits.specs.declared.Read.the-variants as read
 use Rattle.payload.specs.Limits.{longestPayload}
@@ -68,3 +70,26 @@ signedSays (signed.Number n next) = done (record { number = n; next = next })
 signedSays signed.Value = refused VALUE []
 signedSays signed.TooLong = refused TOO-LONG []
 signedSays signed.PayloadOut = refused PAYLOAD-OUT []
+
+-- ── how the bits from a place on begin, with no reader in it ──
+
+-- with z zeros, a 1, then z bits of value b: a number, and the place after it
+pub record Coded (bits : List ℕ) (place : ℕ) (m : Numbered ℕ) : Type 0 where
+  pub z : ℕ
+  pub b : ℕ
+  pub rest : List ℕ
+  pub few : z ≤ 31
+  pub small : b < 2 ^ z
+  pub there : drop place bits ≡ replicate z 0 ++ (1 ∷ (bitsIn z b ++ rest))
+  pub is : m ≡ record { number = 2 ^ z - 1 + b; next = place + z + 1 + z }
+
+-- with 32 zeros
+pub record TooManyZeros (bits : List ℕ) (place : ℕ) : Type 0 where
+  pub rest : List ℕ
+  pub there : drop place bits ≡ replicate 32 0 ++ rest
+
+-- they end before the 1, or before the z bits after it
+pub record EndsFirst (bits : List ℕ) (place : ℕ) : Type 0 where
+  pub z : ℕ
+  pub few : z ≤ 31
+  pub there : (drop place bits ≡ replicate z 0) ⊎ ((rest : List ℕ) × (drop place bits ≡ replicate z 0 ++ (1 ∷ rest)) × (length rest < z))

@@ -6,9 +6,9 @@ use native.Mathlib.Omega.{arith}
 use borrow.Author.Needs.{needs}
 use lib.ListN.{length, getD, drop}
 use Rattle.bits.specs.Answers.{Outcome, done, refused}
+use Rattle.bits.proofs.Outcomes.{not-done}
 use Rattle.grammar.specs.Reader.{longestStream}
 use Rattle.grammar.specs.declared.State.{State}
-use Rattle.grammar.proofs.Filing.{not-done}
 use Rattle.filing.specs.Units.{Next, unitSays, unitAt}
 use Rattle.filing.specs.declared.UnitAnswer.the-variants.{Refused}
 use Rattle.filing.proofs.Units.{Advanced, Left, what-is-left}
