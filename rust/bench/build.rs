@@ -1,4 +1,4 @@
-//! Compiles the plain C rivals and links them and the library.
+//! Compiles the plain C rivals and links them; the crate `avsplus` links the library.
 use std::env;
 use std::path::{Path, PathBuf};
 use std::process::{exit, Command};
@@ -7,9 +7,7 @@ fn main() {
     let here = PathBuf::from(variable("CARGO_MANIFEST_DIR"));
     let out = PathBuf::from(variable("OUT_DIR"));
     plain_c(&here.join("c").join("plain.c"), &out);
-    library(&here);
     println!("cargo:rerun-if-changed=c/plain.c");
-    println!("cargo:rerun-if-env-changed=AVSPLUS_LIB_DIR");
 }
 
 fn variable(name: &str) -> String {
@@ -26,20 +24,6 @@ fn plain_c(source: &Path, out: &Path) {
     run(Command::new("ar").arg("crs").arg(&archive).arg(&object));
     println!("cargo:rustc-link-search=native={}", out.display());
     println!("cargo:rustc-link-lib=static=plain");
-}
-
-fn library(here: &Path) {
-    let directory = match env::var("AVSPLUS_LIB_DIR") {
-        Ok(given) => PathBuf::from(given),
-        Err(_) => here.join("..").join("..").join("target").join("staticlib"),
-    };
-    let archive = directory.join("libavsplus.a");
-    if !archive.is_file() {
-        fail(&format!("{} is missing: run `rt staticlib avsplus`", archive.display()));
-    }
-    println!("cargo:rerun-if-changed={}", archive.display());
-    println!("cargo:rustc-link-search=native={}", directory.display());
-    println!("cargo:rustc-link-lib=static=avsplus");
 }
 
 fn run(command: &mut Command) {

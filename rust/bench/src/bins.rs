@@ -1,6 +1,6 @@
 //! Bins, one at a time, by 1 context and by 512.
 use crate::inputs;
-use crate::library::{self, Context, Decoded, State};
+use crate::library::{self, Bin, Context, State};
 use crate::measure::{measure, Measured, Rival, Work, LIBRARY, SAME};
 use crate::rows::Scale;
 use crate::{plain_c, plain_rust};
@@ -9,6 +9,15 @@ const FRESH: Context = Context {
     mps: 0,
     lg: 1023,
     cycno: 0,
+};
+
+/// Asked with at a start, which answers another where the payload is good.
+const NO_STATE: State = State {
+    rs: 0,
+    rt: 0,
+    vs: 0,
+    vt: 0,
+    place: 0,
 };
 
 /// What stands after the bins: their number, the bins themselves mixed into one number, the state and the contexts.
@@ -81,7 +90,7 @@ fn run(start: State, indices: &[u16], decode: impl Fn(&mut State, &mut Context) 
 }
 
 #[inline(always)]
-fn keep(decoded: Decoded, state: &mut State, context: &mut Context) -> Option<u32> {
+fn keep(decoded: Bin, state: &mut State, context: &mut Context) -> Option<u32> {
     if decoded.status != 0 {
         return None;
     }
@@ -92,25 +101,25 @@ fn keep(decoded: Decoded, state: &mut State, context: &mut Context) -> Option<u3
 
 fn by_library(payload: &[u8], indices: &[u16]) -> Run {
     let bits = payload.len() * 8;
-    let start = library::start(payload, bits, State::default()).state;
+    let start = library::start(payload, bits, NO_STATE).state;
     run(start, indices, |s, c| keep(library::decode(payload, bits, *s, *c), s, c))
 }
 
 fn by_plain_c(payload: &[u8], indices: &[u16]) -> Run {
     let bits = payload.len() * 8;
-    let start = plain_c::start(payload, bits, State::default()).state;
+    let start = plain_c::start(payload, bits, NO_STATE).state;
     run(start, indices, |s, c| keep(plain_c::decode(payload, bits, *s, *c), s, c))
 }
 
 fn by_plain_c_in_place(payload: &[u8], indices: &[u16]) -> Run {
     let bits = payload.len() * 8;
-    let start = plain_c::start(payload, bits, State::default()).state;
+    let start = plain_c::start(payload, bits, NO_STATE).state;
     run(start, indices, |s, c| plain_c::decode_in_place(payload, bits, s, c))
 }
 
 fn by_plain_rust(payload: &[u8], indices: &[u16]) -> Run {
     let bits = payload.len() * 8;
-    let start = plain_rust::start(payload, bits).unwrap_or_default();
+    let start = plain_rust::start(payload, bits).unwrap_or(NO_STATE);
     run(start, indices, |s, c| plain_rust::decode(payload, bits, s, c).ok())
 }
 

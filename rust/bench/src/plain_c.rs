@@ -1,5 +1,5 @@
 //! The plain C rivals. They answer in the library's records, so that one comparison serves all.
-use crate::library::{Answer, Context, Decoded, Started, State};
+use crate::library::{Answer, Bin, Context, Started, State};
 
 type File = unsafe extern "C" fn(*const u8, usize, *mut u32, usize) -> Answer;
 type Next = unsafe extern "C" fn(*const u8, usize, usize) -> usize;
@@ -16,7 +16,7 @@ extern "C" {
     fn plain_remove_escapes_bitwise(raw: *const u8, length: usize, output: *mut u8, room: usize) -> Answer;
     fn plain_remove_escapes_bytewise(raw: *const u8, length: usize, output: *mut u8, room: usize) -> Answer;
     fn plain_start(bytes: *const u8, length: usize, bits: usize, state: State) -> Started;
-    fn plain_decode(bytes: *const u8, length: usize, bits: usize, state: State, context: Context) -> Decoded;
+    fn plain_decode(bytes: *const u8, length: usize, bits: usize, state: State, context: Context) -> Bin;
     fn plain_decode_in_place(
         bytes: *const u8,
         length: usize,
@@ -86,7 +86,7 @@ pub fn start(bytes: &[u8], bits: usize, state: State) -> Started {
 }
 
 #[inline(always)]
-pub fn decode(bytes: &[u8], bits: usize, state: State, context: Context) -> Decoded {
+pub fn decode(bytes: &[u8], bits: usize, state: State, context: Context) -> Bin {
     // SAFETY: the slice is lent with its own length.
     unsafe { plain_decode(bytes.as_ptr(), bytes.len(), bits, state, context) }
 }

@@ -7,6 +7,15 @@ const H: [u8; 15] = [
 ];
 /// Width and height 0, which are recorded and not judged; marker 1; stereo 0.
 const DISPLAY: [u8; 6] = [0x20, 0x00, 0x01, 0x00, 0x00, 0x80];
+/// The record of that body.
+const DISPLAY_RECORD: Display = Display {
+    format: 0,
+    range: 0,
+    colour: None,
+    width: 0,
+    height: 0,
+    stereo: 0,
+};
 const COPYRIGHT: [u8; 12] = [0x40, 0x00, 0x04, 0x00, 0x00, 0x20, 0x00, 0x00, 0x40, 0x00, 0x00, 0x80];
 const PICTURE: (u8, &[u8]) = (0xB3, &[0x80]);
 const SLICE: (u8, &[u8]) = (0, &[0x80]);
@@ -204,15 +213,7 @@ fn header_refusals() {
 
 #[test]
 fn extension_refusals() {
-    let display = Display {
-        format: 0,
-        range: 0,
-        colour: None,
-        width: 0,
-        height: 0,
-        stereo: 0,
-    };
-    assert_eq!(extension(&DISPLAY, true), Ok(Extension::Display(display)));
+    assert_eq!(extension(&DISPLAY, true), Ok(Extension::Display(DISPLAY_RECORD)));
     assert_eq!(extension(&DISPLAY, false), Ok(Extension::Opaque(2)));
     assert_eq!(extension(&[], true), Err(6));
     assert_eq!(extension(&[0x2F], true), Err(6));
@@ -301,15 +302,7 @@ fn groups() {
         EDIT,
     ]);
     let h = header(&H).unwrap();
-    let display = Display {
-        format: 0,
-        range: 0,
-        colour: None,
-        width: 0,
-        height: 0,
-        stereo: 0,
-    };
-    assert_eq!(group(&stream, 0), Ok((h, Some(display))));
+    assert_eq!(group(&stream, 0), Ok((h, Some(DISPLAY_RECORD))));
     assert_eq!(group(&stream, 1), Ok((h, None)));
     assert_eq!(group(&stream, 2), Err(Refused { number: 16, place: 0 }));
     assert_eq!(group(&stream, u64::MAX), Err(Refused { number: 16, place: 0 }));
