@@ -8,7 +8,7 @@ use native.Mathlib.Numerals.{add-one}
 use native.Mathlib.Nat.{pow-suc}
 use lib.Bits.{and-mask, bitAnd}
 use lib.Dec.{eqb, leb}
-use lib.ListN.{length, getD, take, drop, set, length-append, length-set, length-take, drop-of-length-le, take-append-drop}
+use lib.ListN.{length, getD, take, drop, set, length-append, length-set, drop-of-length-le, take-append-drop}
 use lib.Pow.{shl-lt, shl-exact}
 use lib.Seq.{take-suc, take-all, take-suc-set, drop-set-lt, drop-drop, drop-cons, length-take-le, set-split}
 use borrow.Author.Tests.{le-leb, lt-ltb, le-ltb}
