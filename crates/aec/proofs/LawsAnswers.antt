@@ -4,10 +4,9 @@ use mathlib.Core.Path.{_≡_, refl, sym, ap, _∙_}
 use native.Mathlib.Omega.{arith}
 use mathlib.Core.Bool.{cond}
 use lib.Dec.{eqb}
-use Rattle.bits.specs.Answers.{Outcome, done, refused, TOO-LONG, BAD-STATE}
-use Rattle.aec.specs.Bins.{andThen}
+use Rattle.answers.specs.Answers.{Outcome, done, refused, TOO-LONG, BAD-STATE, andThen, OneToOne}
+use Rattle.answers.proofs.Outcomes.{goes}
 use Rattle.aec.specs.Says.{refusalSays}
-use Rattle.aec.specs.Claims.{OneToOne}
 use Rattle.aec.specs.declared.Refusal.{Refusal}
 use Rattle.aec.specs.declared.Refusal.the-variants as refusal
 
@@ -21,14 +20,7 @@ stands refusal.PayloadOut next = refl
 pub stops : {A B : Type 0} (r : Refusal) {o : Outcome A} (next : A → Outcome B) → refusalSays r ≡ o → refusalSays r ≡ andThen o next
 stops r next e = stands r next ∙ ap (λ o. andThen o next) e
 
-pub goes : {A B : Type 0} {value : A} {o : Outcome A} (next : A → Outcome B) → done value ≡ o → next value ≡ andThen o next
-goes next e = ap (λ o. andThen o next) e
-
 -- ── no two answers say the same ──
-
--- what can be told from what is said is said of one thing
-pub told : {A B : Type 0} (says : A → B) (back : B → A) → ((a : A) → back (says a) ≡ a) → OneToOne says
-told says back is a b e = sym (is a) ∙ ap back e ∙ is b
 
 -- an answer told from its outcome
 abbrev pub answer : {A B : Type 0} → (A → B) → (Refusal → B) → Outcome A → B
@@ -49,13 +41,3 @@ module _ {A B C : Type 0} {o : Outcome A} (first : A → Outcome B) (next : A �
 
   pub stops-next : (r : Refusal) → refusalSays r ≡ first value → refusalSays r ≡ andThen o (λ a. andThen (first a) (next a))
   stops-next r f = stops r (next value) f ∙ goes (λ a. andThen (first a) (next a)) e
-
--- what an answer that is done came from
-pub record Came {A B : Type 0} (o : Outcome A) (next : A → Outcome B) (w : B) : Type 0 where
-  pub value : A
-  pub from : o ≡ done value
-  pub to : next value ≡ done w
-
-pub came : {A B : Type 0} (o : Outcome A) (next : A → Outcome B) (w : B) → andThen o next ≡ done w → Came o next w
-came (done value) next w e = record { value = value; from = refl; to = e }
-came (refused n carried) next w e = let z : _≡_ {A = ℕ} 0 1 = cc in absurd (omega arith)

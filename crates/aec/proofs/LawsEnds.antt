@@ -8,13 +8,13 @@ use native.Mathlib.Omega.{arith}
 use borrow.Author.Tests.{le-leb, leb-true, leb-false}
 use lib.Dec.{leb}
 use lib.ListN.{length}
-use Rattle.bits.specs.Answers.{Outcome, done, refused, TOO-LONG, BAD-STATE, PAYLOAD-OUT}
+use Rattle.answers.specs.Answers.{Outcome, done, refused, TOO-LONG, BAD-STATE, PAYLOAD-OUT, andThen, OneToOne}
 use Rattle.bits.specs.Bits.{payload, readAt}
 use Rattle.bits.proofs.Lists.{by-test}
 use Rattle.bits.proofs.Main.{missing-exactly}
-use Rattle.aec.specs.Bins.{andThen, goodState, goodContext, freshContext, withinLimit, refusedFirst, settleOf, wanted, startOf, stepOf, pairOf, plainOf, decodeOf, decodePairOf, updateOf}
+use Rattle.aec.specs.Bins.{goodState, goodContext, freshContext, withinLimit, refusedFirst, settleOf, wanted, startOf, stepOf, pairOf, plainOf, decodeOf, decodePairOf, updateOf}
 use Rattle.aec.specs.Says.{refusalSays, startedSays, steppedSays, decodedSays, decodedPairSays}
-use Rattle.aec.specs.Claims.{OneToOne, Leads, Runs, runs-done, runs-out, Refuses, SameBits}
+use Rattle.aec.specs.Claims.{Leads, Runs, runs-done, runs-out, Refuses, SameBits}
 use Rattle.aec.specs.declared.State.{State}
 use Rattle.aec.specs.declared.Context.{Context}
 use Rattle.aec.specs.declared.Prediction.{Prediction}
@@ -27,7 +27,8 @@ use Rattle.aec.specs.declared.Decoded.{Decoded}
 use Rattle.aec.specs.declared.Decoded.the-variants as decoded
 use Rattle.aec.specs.declared.DecodedPair.{DecodedPair}
 use Rattle.aec.specs.declared.DecodedPair.the-variants as decoded-pair
-use Rattle.aec.proofs.LawsAnswers.{told, answer, answer-refused, goes, came}
+use Rattle.aec.proofs.LawsAnswers.{answer, answer-refused}
+use Rattle.answers.proofs.Outcomes.{undone, goes, came}
 use Rattle.aec.proofs.LawsRanges.{both, state-ranges, ranges-state, context-ranges, ranges-context}
 use Rattle.aec.proofs.LawsContexts.{Predicts, pair-predicts, update-ranges}
 use Rattle.aec.proofs.LawsSteps.{limit-passed, limit-kept, first-long, first-bad, first-fine, first-held}
@@ -36,17 +37,17 @@ use Rattle.aec.proofs.LawsGood.{step-good, start-ranges, runs-then, run
 -- ── no two answers say the same ──
 
 pub refusal-one-to-one : {A : Type 0} → OneToOne (refusalSays {A = A})
-refusal-one-to-one {A} = told (refusalSays {A = A}) (answer (λ _. TooLong) (λ r. r)) (answer-refused {A = A} (λ _. TooLong) (λ r. r))
+refusal-one-to-one {A} = undone (refusalSays {A = A}) (answer (λ _. TooLong) (λ r. r)) (answer-refused {A = A} (λ _. TooLong) (λ r. r))
 
 pub started-one-to-one : OneToOne startedSays
-started-one-to-one = told startedSays (answer started.Done started.Refused) back
+started-one-to-one = undone startedSays (answer started.Done started.Refused) back
   where
     back : (a : Started) → answer started.Done started.Refused (startedSays a) ≡ a
     back (started.Done x) = refl
     back (started.Refused r) = answer-refused started.Done started.Refused r
 
 pub stepped-one-to-one : OneToOne steppedSays
-stepped-one-to-one = told steppedSays (answer value stepped.Refused) back
+stepped-one-to-one = undone steppedSays (answer value stepped.Refused) back
   where
     value : ℕ × State → Stepped
     value v = stepped.Done (v .0) (v .1)
@@ -56,7 +57,7 @@ stepped-one-to-one = told steppedSays (answer value stepped.Refused) back
     back (stepped.Refused r) = answer-refused value stepped.Refused r
 
 pub decoded-one-to-one : OneToOne decodedSays
-decoded-one-to-one = told decodedSays (answer value decoded.Refused) back
+decoded-one-to-one = undone decodedSays (answer value decoded.Refused) back
   where
     value : ℕ × State × Context → Decoded
     value v = decoded.Done (v .0) (v .1) (v .2)
@@ -66,7 +67,7 @@ decoded-one-to-one = told decodedSays (answer value decoded.Refused) back
     back (decoded.Refused r) = answer-refused value decoded.Refused r
 
 pub decoded-pair-one-to-one : OneToOne decodedPairSays
-decoded-pair-one-to-one = told decodedPairSays (answer value decoded-pair.Refused) back
+decoded-pair-one-to-one = undone decodedPairSays (answer value decoded-pair.Refused) back
   where
     value : ℕ × State × Context × Context → DecodedPair
     value v = decoded-pair.Done (v .0) (v .1) (v .2) (v .3)

@@ -6,19 +6,19 @@ use mathlib.Core.Bool.{Bool}
 use native.Mathlib.Omega.{arith}
 use lib.Dec.{eqb}
 use lib.ListN.{length, drop}
-use Rattle.bits.specs.Answers.{Outcome, done}
+use Rattle.answers.specs.Answers.{Outcome, done, andThen}
 use Rattle.bits.specs.Bits.{payload, readAt}
 use Rattle.bits.specs.declared.Read.{Read}
 use Rattle.bits.specs.declared.Read.the-variants as read
 use Rattle.bits.proofs.Lists.{by-test}
 use Rattle.bits.proofs.Laws.{all-payload}
-use Rattle.aec.specs.Bins.{andThen, withinLimit, doubleOf, shifts, normaliseOf, widenOf, settleOf, wanted, startOf, splitOf, missesOf, remainderOf, unpredictedOf, stepOf}
+use Rattle.aec.specs.Bins.{withinLimit, doubleOf, shifts, normaliseOf, widenOf, settleOf, wanted, startOf, splitOf, missesOf, remainderOf, unpredictedOf, stepOf}
 use Rattle.aec.specs.Claims.{Runs, runs-done, runs-out}
 use Rattle.aec.specs.declared.State.{State}
 use Rattle.aec.specs.declared.Shift.{Shift}
 use Rattle.aec.specs.declared.Split.{Split}
 use Rattle.aec.specs.declared.Prediction.{Prediction}
-use Rattle.aec.proofs.LawsAnswers.{came}
+use Rattle.answers.proofs.Outcomes.{came}
 use Rattle.aec.proofs.LawsRanges.{chosen, StateRanges, payload-bound}
 use Rattle.aec.proofs.LawsShifts.{normalised, widened}
 use Rattle.aec.proofs.LawsContexts.{Predicts}

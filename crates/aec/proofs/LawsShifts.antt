@@ -8,15 +8,16 @@ use borrow.Author.Tests.{leb-false}
 use lib.Dec.{leb}
 use lib.ListN.{length, drop, length-drop}
 use lib.Seq.{drop-drop}
-use Rattle.bits.specs.Answers.{Outcome, done}
+use Rattle.answers.specs.Answers.{Outcome, done, andThen}
 use Rattle.bits.specs.Lists.{All}
 use Rattle.bits.proofs.Lists.{all-drop, by-test}
 use Rattle.bits.proofs.Laws.{Binary}
-use Rattle.aec.specs.Bins.{andThen, noBit, doubleOf, shifts, normaliseOf, widenOf}
+use Rattle.aec.specs.Bins.{noBit, doubleOf, shifts, normaliseOf, widenOf}
 use Rattle.aec.specs.Says.{refusalSays}
 use Rattle.aec.specs.declared.Shift.{Shift}
 use Rattle.aec.specs.declared.Refusal.{Refusal}
-use Rattle.aec.proofs.LawsAnswers.{stops, goes}
+use Rattle.aec.proofs.LawsAnswers.{stops}
+use Rattle.answers.proofs.Outcomes.{goes}
 
 -- ── one bit ──
 

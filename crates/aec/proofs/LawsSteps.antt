@@ -7,20 +7,21 @@ use native.Mathlib.Omega.{arith}
 use borrow.Author.Tests.{le-leb, lt-leb, lt-ltb, le-ltb, eq-eqb, ne-eqb, leb-true, leb-false, eqb-true, eqb-false}
 use lib.Dec.{leb, ltb, eqb}
 use lib.ListN.{length, drop, length-take}
-use Rattle.bits.specs.Answers.{Outcome, done, refused, TOO-LONG, BAD-STATE}
+use Rattle.answers.specs.Answers.{Outcome, done, refused, TOO-LONG, BAD-STATE, andThen}
 use Rattle.bits.specs.Bits.{payload, readAt}
 use Rattle.bits.specs.Lists.{All}
 use Rattle.bits.proofs.Lists.{by-test}
 use Rattle.bits.specs.declared.Read.the-variants as read
 use Rattle.bits.proofs.Laws.{Binary, length-in}
 use Rattle.bits.proofs.Main.{read-exactly}
-use Rattle.aec.specs.Bins.{andThen, goodState, withinLimit, refusedFirst, doubleOf, splitOf, missesOf, remainderOf, unpredictedOf, binOf, stepOf}
+use Rattle.aec.specs.Bins.{goodState, withinLimit, refusedFirst, doubleOf, splitOf, missesOf, remainderOf, unpredictedOf, binOf, stepOf}
 use Rattle.aec.specs.declared.State.{State}
 use Rattle.aec.specs.declared.Split.{Split}
 use Rattle.aec.specs.declared.Prediction.{Prediction}
 use Rattle.aec.specs.declared.Refusal.{Refusal}
 use Rattle.aec.specs.Says.{refusalSays}
-use Rattle.aec.proofs.LawsAnswers.{goes, stops, came}
+use Rattle.aec.proofs.LawsAnswers.{stops}
+use Rattle.answers.proofs.Outcomes.{goes, came}
 use Rattle.aec.proofs.LawsRanges.{both, chosen}
 use Rattle.aec.proofs.LawsShifts.{taken}
 

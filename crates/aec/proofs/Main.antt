@@ -6,11 +6,11 @@ use mathlib.Core.List.{List, []}
 use mathlib.Core.Bool.{true, _&&_}
 use native.Mathlib.Omega.{arith}
 use lib.ListN.{length}
-use Rattle.bits.specs.Answers.{done, refused, TOO-LONG, PAYLOAD-OUT}
+use Rattle.answers.specs.Answers.{done, refused, TOO-LONG, PAYLOAD-OUT, OneToOne}
 use Rattle.bits.specs.Bits.{payload}
 use Rattle.aec.specs.Bins.{goodState, goodContext, freshContext, startOf, bypassOf, stuffingOf, decodeOf, decodePairOf}
 use Rattle.aec.specs.Says.{refusalSays, startedSays, steppedSays, decodedSays, decodedPairSays}
-use Rattle.aec.specs.Claims.{OneToOne, Leads, Refuses, SameBits}
+use Rattle.aec.specs.Claims.{Leads, Refuses, SameBits}
 use Rattle.aec.specs.declared.State.{State}
 use Rattle.aec.specs.declared.Context.{Context}
 use Rattle.aec.proofs.LawsEnds as ends

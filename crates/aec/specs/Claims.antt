@@ -5,14 +5,10 @@ use mathlib.Core.Logic.{_↔_}
 use mathlib.Core.List.{List, []}
 use mathlib.Core.Bool.{Bool, true, false, _&&_}
 use lib.ListN.{length}
-use Rattle.bits.specs.Answers.{Outcome, done, refused, TOO-LONG, BAD-STATE, PAYLOAD-OUT}
+use Rattle.answers.specs.Answers.{Outcome, done, refused, TOO-LONG, BAD-STATE, PAYLOAD-OUT}
 use Rattle.bits.specs.Bits.{payload}
 use Rattle.aec.specs.Bins.{goodState}
 use Rattle.aec.specs.declared.State.{State}
-
--- no two answers say the same
-abbrev pub OneToOne : {A B : Type 0} → (A → B) → Type 0
-OneToOne {A} says = (a b : A) → says a ≡ says b → a ≡ b
 
 -- a bin that was answered: it is 0 or 1, the next state is within its ranges, and the place went on within the payload's bits
 pub record Leads (bytes : List ℕ) (count : ℕ) (x : State) (bin : ℕ) (y : State) : Type 0 where

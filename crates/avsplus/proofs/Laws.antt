@@ -7,7 +7,7 @@ use native.Mathlib.Numerals.{add-one}
 use native.Mathlib.Omega.{arith}
 use borrow.Author.Tests.{le-leb, lt-leb}
 use lib.ListN.{length, getD, take, drop, set}
-use Rattle.bits.specs.Answers.{Outcome, done, refused, mapDone, FULL}
+use Rattle.answers.specs.Answers.{Outcome, done, refused, mapDone, FULL}
 use Rattle.avsplus.specs.declared.Answer.{Answer}
 use Rattle.avsplus.specs.Answers.{counted, handed, over, answered, after}
 

@@ -7,8 +7,8 @@ use mathlib.Core.Bool.{Bool, true, false, cond}
 use native.Mathlib.Omega.{arith}
 use lib.Dec.{eqb}
 use lib.IntN.{ℤ, pos, negsuc, negℤ}
-use Rattle.bits.specs.Answers.{Outcome, done, refused, mapDone}
-use Rattle.bits.proofs.Outcomes.{not-done, done-one}
+use Rattle.answers.specs.Answers.{Outcome, done, refused, mapDone}
+use Rattle.answers.proofs.Outcomes.{not-done, done-one}
 use Rattle.payload.specs.Golomb.{Numbered, golomb, standsFor, withSign, signedGolomb}
 use Rattle.payload.proofs.GolombLaws.{golomb-bound}
 use Rattle.aec.specs.Bins.{bypassOf, stuffingOf, decodeOf, decodePairOf}

@@ -5,7 +5,7 @@ use mathlib.Core.Bool.{cond}
 use mathlib.Core.Option.{Option, none, some}
 use lib.Dec.{leb}
 use lib.ListN.{length, drop}
-use Rattle.bits.specs.Answers.{Outcome, done, refused, mapDone, FULL}
+use Rattle.answers.specs.Answers.{Outcome, done, refused, mapDone, FULL}
 use Rattle.startcode.specs.declared.Kind.{Kind}
 use Rattle.startcode.specs.declared.Kind.the-variants.{Slice, SequenceHeader, SequenceEnd, UserData, IPicture, Extension, PBPicture, EditCode}
 use Rattle.grammar.specs.Rows.{Row}

@@ -2,7 +2,7 @@
 -- a number or a bin, which it has none of, it has a mark that is no number and no bin (proofs/Main.antt).
 use Prim.Native.Nat.{ℕ}
 use lib.IntN.{ℤ, pos, negℤ}
-use Rattle.bits.specs.Answers.{Outcome, done, refused}
+use Rattle.answers.specs.Answers.{Outcome, done, refused}
 use Rattle.payload.specs.Golomb.{Numbered}
 use Rattle.aec.specs.declared.State.{State}
 use Rattle.aec.specs.declared.Context.{Context}

@@ -26,10 +26,11 @@ ghost use mathlib.Core.Path.{_≡_};
 ghost use mathlib.Core.List.{[], _∷_};
 ghost use Prim.Native.Nat.{_<_};
 ghost use lib.ListN.{length};
-ghost use Rattle.bits.specs.Answers.{Outcome, done, refused, mapDone, NO-ROW};
+ghost use Rattle.answers.specs.Answers.{Outcome, done, refused, mapDone, NO-ROW};
 ghost use Rattle.startcode.specs.Kinds.{kindOf};
 ghost use Rattle.startcode.specs.Prefix.{nextPrefix};
 ghost use Rattle.layout.specs.Answers as bodies;
+ghost use Rattle.layout.specs.Reader as reader;
 ghost use Rattle.ratios.specs.Ratios.{frameRate, displayRatio};
 ghost use Rattle.grammar.specs.Reader.{filingInto};
 ghost use Rattle.filing.specs.Units as units;
@@ -424,8 +425,8 @@ pub extern "C" fn avsplus_group_colour(stream: &[u8], g: usize, numbers: &mut [u
 // A sequence header's body.
 #[no_mangle]
 pub extern "C" fn avsplus_sequence_header(body: &[u8], numbers: &mut [u64]) -> Answer
-    ensures answer { λ r. ⌜ r ≡ answered (mapDone headerNumbers (bodies.headerOf (now (body .entry)))) (now (numbers .entry)) ⌝ }
-    ensures numbers { λ r. ⌜ now (numbers .exit) ≡ after (mapDone headerNumbers (bodies.headerOf (now (body .entry)))) (now (numbers .entry)) ⌝ }
+    ensures answer { λ r. ⌜ r ≡ answered (mapDone headerNumbers (reader.headerOf (now (body .entry)))) (now (numbers .entry)) ⌝ }
+    ensures numbers { λ r. ⌜ now (numbers .exit) ≡ after (mapDone headerNumbers (reader.headerOf (now (body .entry)))) (now (numbers .entry)) ⌝ }
 {
     match layout::sequence_header(body) {
         HeaderAnswer::Header(h) => hand_header(h, numbers),
@@ -442,8 +443,8 @@ fn place_for(head: bool) -> Place
 // An extension's body: its number.
 #[no_mangle]
 pub extern "C" fn avsplus_extension(body: &[u8], head: bool, numbers: &mut [u64]) -> Answer
-    ensures answer { λ r. ⌜ r ≡ answered (mapDone numberOf (bodies.extensionOf (placeFor head) (now (body .entry)))) (now (numbers .entry)) ⌝ }
-    ensures numbers { λ r. ⌜ now (numbers .exit) ≡ after (mapDone numberOf (bodies.extensionOf (placeFor head) (now (body .entry)))) (now (numbers .entry)) ⌝ }
+    ensures answer { λ r. ⌜ r ≡ answered (mapDone numberOf (reader.extensionOf (placeFor head) (now (body .entry)))) (now (numbers .entry)) ⌝ }
+    ensures numbers { λ r. ⌜ now (numbers .exit) ≡ after (mapDone numberOf (reader.extensionOf (placeFor head) (now (body .entry)))) (now (numbers .entry)) ⌝ }
 {
     match layout::extension(body, place_for(head)) {
         ExtensionAnswer::Display(_) => hand_number(2, numbers),
@@ -456,8 +457,8 @@ pub extern "C" fn avsplus_extension(body: &[u8], head: bool, numbers: &mut [u64]
 // An extension's body as a display extension, given or not given.
 #[no_mangle]
 pub extern "C" fn avsplus_display(body: &[u8], head: bool, numbers: &mut [u64]) -> Answer
-    ensures answer { λ r. ⌜ r ≡ answered (mapDone displayOf (bodies.extensionOf (placeFor head) (now (body .entry)))) (now (numbers .entry)) ⌝ }
-    ensures numbers { λ r. ⌜ now (numbers .exit) ≡ after (mapDone displayOf (bodies.extensionOf (placeFor head) (now (body .entry)))) (now (numbers .entry)) ⌝ }
+    ensures answer { λ r. ⌜ r ≡ answered (mapDone displayOf (reader.extensionOf (placeFor head) (now (body .entry)))) (now (numbers .entry)) ⌝ }
+    ensures numbers { λ r. ⌜ now (numbers .exit) ≡ after (mapDone displayOf (reader.extensionOf (placeFor head) (now (body .entry)))) (now (numbers .entry)) ⌝ }
 {
     match layout::extension(body, place_for(head)) {
         ExtensionAnswer::Display(d) => hand_display(d, numbers),
@@ -470,8 +471,8 @@ pub extern "C" fn avsplus_display(body: &[u8], head: bool, numbers: &mut [u64]) 
 // An extension's body as a copyright extension, given or not given.
 #[no_mangle]
 pub extern "C" fn avsplus_copyright(body: &[u8], head: bool, numbers: &mut [u64]) -> Answer
-    ensures answer { λ r. ⌜ r ≡ answered (mapDone copyrightOf (bodies.extensionOf (placeFor head) (now (body .entry)))) (now (numbers .entry)) ⌝ }
-    ensures numbers { λ r. ⌜ now (numbers .exit) ≡ after (mapDone copyrightOf (bodies.extensionOf (placeFor head) (now (body .entry)))) (now (numbers .entry)) ⌝ }
+    ensures answer { λ r. ⌜ r ≡ answered (mapDone copyrightOf (reader.extensionOf (placeFor head) (now (body .entry)))) (now (numbers .entry)) ⌝ }
+    ensures numbers { λ r. ⌜ now (numbers .exit) ≡ after (mapDone copyrightOf (reader.extensionOf (placeFor head) (now (body .entry)))) (now (numbers .entry)) ⌝ }
 {
     match layout::extension(body, place_for(head)) {
         ExtensionAnswer::Display(_) => not_given(),
@@ -492,8 +493,8 @@ fn hand_colour_of(d: DisplayExtension, numbers: &mut [u64]) -> Answer
 // The colour of an extension's body, given or not given.
 #[no_mangle]
 pub extern "C" fn avsplus_display_colour(body: &[u8], head: bool, numbers: &mut [u64]) -> Answer
-    ensures answer { λ r. ⌜ r ≡ answered (mapDone colourOf (bodies.extensionOf (placeFor head) (now (body .entry)))) (now (numbers .entry)) ⌝ }
-    ensures numbers { λ r. ⌜ now (numbers .exit) ≡ after (mapDone colourOf (bodies.extensionOf (placeFor head) (now (body .entry)))) (now (numbers .entry)) ⌝ }
+    ensures answer { λ r. ⌜ r ≡ answered (mapDone colourOf (reader.extensionOf (placeFor head) (now (body .entry)))) (now (numbers .entry)) ⌝ }
+    ensures numbers { λ r. ⌜ now (numbers .exit) ≡ after (mapDone colourOf (reader.extensionOf (placeFor head) (now (body .entry)))) (now (numbers .entry)) ⌝ }
 {
     match layout::extension(body, place_for(head)) {
         ExtensionAnswer::Display(d) => hand_colour_of(d, numbers),

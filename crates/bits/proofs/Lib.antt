@@ -1,5 +1,4 @@
 pub mod Lists
-pub mod Outcomes
 pub mod Laws
 pub mod Reading
 pub mod Packing

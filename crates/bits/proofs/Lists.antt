@@ -1,4 +1,4 @@
--- The laws of `All`, of maps that can be undone, and of tests: a case split that keeps its equation, and a rule proved by one computed test.
+-- The laws of `All` and of tests: a case split that keeps its equation, and a rule proved by one computed test.
 use Prim.Native.Nat.{ℕ, zero, suc, _<_}
 use mathlib.Core.Path.{_≡_, refl, sym, ap, _∙_}
 use mathlib.Core.List.{List, [], _∷_, _++_}
@@ -31,10 +31,6 @@ pub all-take : {A : Type 0} (P : A → Type 0) (n : ℕ) (l : List A) → All P 
 all-take P zero l h = tt
 all-take P (suc n) [] h = h
 all-take P (suc n) (x ∷ l) h = (h .0, all-take P n l (h .1))
-
--- a map that can be undone is one-to-one
-pub one-to-one : {A B : Type 0} (f : A → B) (undo : B → A) → ((a : A) → undo (f a) ≡ a) → (a b : A) → f a ≡ f b → a ≡ b
-one-to-one f undo h a b e = sym (h a) ∙ ap undo e ∙ h b
 
 pub by-test {ℓ} : {P : Type ℓ} (t : Bool) → (t ≡ true → P) → (t ≡ false → P) → P
 by-test true yes-case no-case = yes-case refl

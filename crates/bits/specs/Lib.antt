@@ -1,4 +1,3 @@
--- What document 01 says of answers and of bits, for every crate above.
-pub mod Answers
+-- What document 01 says of bits, for every crate above.
 pub mod Lists
 pub mod Bits

@@ -5,9 +5,9 @@ use Rattle.bits.specs.Lists.{All}
 use Rattle.startcode.specs.Kinds.{kindOf}
 use Rattle.startcode.specs.Prefix.{begins}
 use Rattle.layout.specs.Layouts.{fields, leastBytes, faultAt}
-use Rattle.layout.specs.Reading.{allows, valuesOf, judge, cross, judged, ended, reading}
+use Rattle.layout.specs.Reader.{allows, valuesOf, judge, cross, judged, ended, reading, answerOf, recordOf, headerOf}
 use Rattle.layout.specs.Records.{headerRecord}
-use Rattle.layout.specs.Answers.{faultNumber, answerOf, recordOf, headerOf}
+use Rattle.layout.specs.Answers.{faultNumber}
 use Rattle.macroblocks.specs.Macroblocks.{macroblockColumns, macroblockRows, slicesTested}
 use Rattle.grammar.specs.Rows.{rowLength}
 use Rattle.grammar.specs.Reader.{cut, step, fileFrom, filingOfAny, filing, filingInto}

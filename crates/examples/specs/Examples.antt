@@ -4,16 +4,16 @@ use mathlib.Core.Path.{_≡_}
 use mathlib.Core.List.{List, [], _∷_, _++_}
 use lib.IntN.{ℤ, pos, negℤ}
 use lib.ListN.{length}
-use Rattle.bits.specs.Answers.{Outcome, done, refused, mapDone, NO-CODE, CUT, VALUE, STUFFING, UNENDED, FULL, PAYLOAD-OUT}
+use Rattle.answers.specs.Answers.{Outcome, done, refused, mapDone, NO-CODE, CUT, VALUE, STUFFING, UNENDED, FULL, PAYLOAD-OUT, andThen}
 use Rattle.bits.specs.Lists.{All}
-use Rattle.layout.specs.Answers.{headerOf}
+use Rattle.layout.specs.Reader.{headerOf}
 use Rattle.layout.specs.declared.SequenceHeader.{SequenceHeader}
 use Rattle.macroblocks.specs.Macroblocks.{macroblockColumns, macroblockRows}
 use Rattle.grammar.specs.Rows.{Row, words}
 use Rattle.grammar.specs.Reader.{filingInto}
 use Rattle.payload.specs.Escape.{removal, outputAfter}
 use Rattle.payload.specs.Golomb.{golomb, signedGolomb}
-use Rattle.aec.specs.Bins.{andThen, freshContext, startOf, decodeOf}
+use Rattle.aec.specs.Bins.{freshContext, startOf, decodeOf}
 use Rattle.aec.specs.declared.State.{State}
 use Rattle.aec.specs.declared.Context.{Context}
 

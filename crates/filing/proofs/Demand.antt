@@ -8,12 +8,13 @@ use lib.Dec.{ltb, leb, eqb}
 use lib.ListN.{length, drop, length-map}
 use borrow.Author.Tests.{lt-ltb, le-ltb, ltb-true, ltb-false}
 use native.Mathlib.Omega.{arith}
-use Rattle.bits.specs.Answers.{Outcome, done, refused, mapDone, NO-CODE, CUT, OVERLAP, UNKNOWN, SHORT, VALUE, STUFFING, TWICE, UNENDED, FULL, TOO-LONG}
+use Rattle.answers.specs.Answers.{Outcome, done, refused, mapDone, NO-CODE, CUT, OVERLAP, UNKNOWN, SHORT, VALUE, STUFFING, TWICE, UNENDED, FULL, TOO-LONG}
 use Rattle.bits.specs.Lists.{All}
-use Rattle.bits.proofs.Lists.{by-test, one-to-one}
-use Rattle.bits.proofs.Outcomes.{not-done, not-refused}
-use Rattle.layout.specs.Answers.{faultNumber, headerResult, extensionResult, isDisplay, displayShort, displayOf}
-use Rattle.layout.specs.Reading.{Result, good, bad, allZero}
+use Rattle.bits.proofs.Lists.{by-test}
+use Rattle.answers.proofs.Outcomes.{not-done, not-refused, undone}
+use Rattle.layout.specs.Answers.{faultNumber}
+use Rattle.layout.specs.Reader.{headerResult, extensionResult, isDisplay, displayShort, displayOf, Result, allZero}
+use Rattle.answers.specs.Results.{good, bad}
 use Rattle.layout.specs.declared.Place.the-variants as place
 use Rattle.layout.specs.declared.Fault.the-variants as fault
 use Rattle.startcode.specs.Prefix.{begins}
@@ -22,7 +23,8 @@ use Rattle.grammar.specs.Rows.{Row, Placed, rowsFrom, placedUnits, words, rows}
 use Rattle.grammar.specs.declared.SliceRule.{SliceRule}
 use Rattle.grammar.specs.declared.State.{State}
 use Rattle.grammar.specs.declared.State.the-variants.{Start, Head, Picture as InPicture, Slices, Ended, Closed}
-use Rattle.grammar.specs.Reader.{Step, go, stop, guard, choose, by, headExtension, pictureStep, sliceStep, endingStep, table, unknown, step, final, isNil, cut, addRow, continue, rowAt, fileFrom, filingOfAny, filing, filingInto, within, longestStream}
+use Rattle.grammar.specs.Reader.{Step, go, stop, guard, choose, by, headExtension, pictureStep, sliceStep, endingStep, table, unknown, step, final, isNil, cut, addRow, continue, rowAt, fileFrom, filingOfAny, filing, filingInto, within}
+use Rattle.answers.specs.Limits.{longestStream}
 use Rattle.grammar.proofs.Filing.{filed-iff, unitOf, units-of-placed}
 use Rattle.grammar.specs.Refusals.{RefusesInto}
 use Rattle.grammar.proofs.Refusals.{into-iff}
@@ -104,7 +106,7 @@ filing-says-one (answer.Refused r) (answer.Filed t) e = let z : _≡_ {A = ℕ} 
 filing-says-one (answer.Refused r) (answer.Refused q) e =
     let n : reasonNumber (r .reason) ≡ reasonNumber (q .reason) = cc in
     let p : r .place ≡ q .place = cc in
-    let w = one-to-one reasonNumber reasonOf reason-undone (r .reason) (q .reason) n in
+    let w = undone reasonNumber reasonOf reason-undone (r .reason) (q .reason) n in
     ap answer.Refused (λ i. record { reason = w i; place = p i })
 
 -- ── the number of rows ──

@@ -9,10 +9,10 @@ use lib.Seq.{take-suc, take-length}
 use borrow.Author.Tests.{ne-eqb, lt-ltb, le-ltb, le-leb, lt-leb}
 use native.Mathlib.Numerals.{add-one}
 use native.Mathlib.Omega.{arith}
-use Rattle.bits.specs.Answers.{Outcome, done, refused, VALUE}
-use Rattle.layout.specs.Answers.{answerOf, isDisplay, displayOf, extensionResult, byNumber}
+use Rattle.answers.specs.Answers.{Outcome, done, refused, VALUE}
+use Rattle.layout.specs.Reader.{answerOf, isDisplay, displayOf, extensionResult, byNumber, Result, allZero}
 use Rattle.layout.specs.declared.Place.the-variants as place
-use Rattle.layout.specs.Reading.{Result, good, bad, allZero}
+use Rattle.answers.specs.Results.{good, bad}
 use Rattle.grammar.specs.Rows.{kept, trimmed}
 use Rattle.grammar.specs.Reader.{Step, go, stop, by, isNil, sliceStep, unknown}
 use Rattle.grammar.specs.declared.SliceRule.{SliceRule}

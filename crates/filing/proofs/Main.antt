@@ -4,7 +4,7 @@ use mathlib.Core.Path.{_≡_}
 use mathlib.Core.List.{List, [], _∷_}
 use mathlib.Core.Logic.{_↔_}
 use lib.ListN.{length}
-use Rattle.bits.specs.Answers.{refused, mapDone}
+use Rattle.answers.specs.Answers.{refused, mapDone}
 use Rattle.grammar.specs.Refusals.{RefusesInto}
 use Rattle.filing.specs.Units.{reasonNumber}
 use Rattle.filing.specs.Filing.{filed, filingSays}

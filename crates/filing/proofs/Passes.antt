@@ -7,12 +7,13 @@ use lib.ListN.{length, getD, take, drop, set, length-append, length-drop, take-a
 use lib.Seq.{drop-drop, take-at, drop-at, length-take-le, sets-eq}
 use native.Mathlib.Numerals.{add-one, add-two}
 use native.Mathlib.Omega.{arith}
-use Rattle.bits.specs.Answers.{Outcome, done, refused, mapDone, NO-CODE, UNENDED}
+use Rattle.answers.specs.Answers.{Outcome, done, refused, mapDone, NO-CODE, UNENDED}
 use Rattle.bits.proofs.Lists.{by-test}
-use Rattle.bits.proofs.Outcomes.{not-done}
+use Rattle.answers.proofs.Outcomes.{not-done}
 use Rattle.startcode.specs.Prefix.{begins}
 use Rattle.grammar.specs.Rows.{Row, words}
-use Rattle.grammar.specs.Reader.{final, addRow, filingOfAny, longestStream}
+use Rattle.grammar.specs.Reader.{final, addRow, filingOfAny}
+use Rattle.answers.specs.Limits.{longestStream}
 use Rattle.grammar.specs.declared.State.{State}
 use Rattle.grammar.specs.declared.State.the-variants.{Start}
 use Rattle.grammar.proofs.Walk.{left, left-end}

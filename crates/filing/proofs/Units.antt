@@ -7,7 +7,7 @@ use lib.Dec.{eqb}
 use lib.ListN.{length, getD, take, drop, length-take, length-drop}
 use borrow.Author.Tests.{eqb-true, eqb-false}
 use native.Mathlib.Omega.{arith}
-use Rattle.bits.specs.Answers.{Outcome, done, refused, NO-CODE, CUT, OVERLAP}
+use Rattle.answers.specs.Answers.{Outcome, done, refused, NO-CODE, CUT, OVERLAP}
 use Rattle.bits.proofs.Lists.{by-test}
 use Rattle.startcode.specs.Prefix.{begins, nextPrefix}
 use Rattle.grammar.specs.Grammar.{StreamUnit, bytes}

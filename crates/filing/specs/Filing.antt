@@ -4,10 +4,11 @@ use mathlib.Core.Path.{_≡_}
 use mathlib.Core.Logic.{_↔_}
 use mathlib.Core.List.{List, [], _∷_, _++_}
 use lib.ListN.{length, drop}
-use Rattle.bits.specs.Answers.{Outcome, done, refused, mapDone}
+use Rattle.answers.specs.Answers.{Outcome, done, refused, mapDone}
 use Rattle.grammar.specs.Grammar.{Reading, Reads, units}
 use Rattle.grammar.specs.Rows.{Row, words, rows as rowsOf}
-use Rattle.grammar.specs.Reader.{filingInto, longestStream}
+use Rattle.grammar.specs.Reader.{filingInto}
+use Rattle.answers.specs.Limits.{longestStream}
 use Rattle.filing.specs.Units.{reasonNumber}
 use Rattle.filing.specs.declared.Reason.the-variants as reason
 use Rattle.filing.specs.declared.Refusal.{Refusal}

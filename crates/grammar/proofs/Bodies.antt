@@ -9,17 +9,18 @@ use native.Mathlib.Omega.{arith}
 use borrow.Author.Tests.{eqb-true, eqb-false, eq-eqb, ne-eqb, le-ltb, ltb-false}
 use lib.Dec.{eqb, ltb}
 use lib.ListN.{length, getD, replicate}
+use Rattle.answers.proofs.Results.{not-good, bind-good}
 use Rattle.bits.specs.Bits.{bitsIn, bitsOf, bitAt, readOn, readAt}
 use Rattle.bits.specs.declared.Bit.{Bit}
 use Rattle.bits.specs.declared.Bit.the-variants as bit
 use Rattle.bits.specs.declared.Read.{Read}
 use Rattle.bits.specs.declared.Read.the-variants.{Value}
 use Rattle.bits.proofs.Lists.{by-test}
-use Rattle.layout.specs.Answers.{recordOf, numberOf, headerResult, byNumber, notCopyright, extensionResult, isDisplay, isTwo, isOne, readBit, displayShort, displayOf, plainOf, colouredOf, copyrightOf}
+use Rattle.layout.specs.Reader.{recordOf, numberOf, headerResult, byNumber, notCopyright, extensionResult, isDisplay, isTwo, isOne, readBit, displayShort, displayOf, plainOf, colouredOf, copyrightOf, Result, _>>_, refuseIf, readValue, recorded, reading, short}
 use Rattle.layout.specs.Answers as answers
 use Rattle.layout.specs.Layouts.{fields, leastBytes}
 use Rattle.layout.specs.Obeys.{Fits, AllAllowed, written, Obeys}
-use Rattle.layout.specs.Reading.{Result, good, bad, _>>=_, _>>_, refuseIf, readValue, recorded, reading, short}
+use Rattle.answers.specs.Results.{good, bad, _>>=_}
 use Rattle.layout.specs.Records.{headerRecord, plainRecord, colouredRecord, copyrightRecord}
 use Rattle.layout.specs.declared.Layout.{Layout}
 use Rattle.layout.specs.declared.Fault.the-variants as fault
@@ -32,22 +33,19 @@ use Rattle.layout.proofs.AnswerLaws as laws
 use Rattle.layout.proofs.LayoutLaws.{fits-length, spell, spelled}
 use Rattle.layout.proofs.BreakAnswers.{copyright-made, number-there}
 use Rattle.layout.proofs.ExtensionLaws.{plain-made, coloured-made}
-use Rattle.layout.proofs.ObeyLaws.{bind-good, then-good, obeys-if, if-obeys}
+use Rattle.layout.proofs.ObeyLaws.{then-good, obeys-if, if-obeys}
 use Rattle.grammar.specs.Grammar.{Extension, IsHeader, IsCopyright, IsDisplay}
 
 -- ── results ──
 
-not-good : {A P : Type 0} (f : Rattle.layout.specs.declared.Fault.Fault) (a : A) → bad f ≡ good a → P
-not-good f a e = let z : _≡_ {A = ℕ} 0 1 = cc in absurd (omega arith)
-
 recorded-good : {A : Type 0} (o : Option A) (a : A) → recorded o ≡ good a → o ≡ some a
-recorded-good none a e = not-good fault.Short a e
+recorded-good none a e = not-good e
 recorded-good (some b) a e = let s : b ≡ a = cc in ap some s
 
 read-good : (r : Read) (n : ℕ) → readValue r ≡ good n → r ≡ Value n
 read-good (Value m) n e = let s : m ≡ n = cc in ap Value s
-read-good Rattle.bits.specs.declared.Read.the-variants.Missing n e = not-good fault.Short n e
-read-good Rattle.bits.specs.declared.Read.the-variants.TooWide n e = not-good fault.Short n e
+read-good Rattle.bits.specs.declared.Read.the-variants.Missing n e = not-good e
+read-good Rattle.bits.specs.declared.Read.the-variants.TooWide n e = not-good e
 
 -- ── sequence header ──
 
@@ -135,7 +133,7 @@ head-good body f = extension-good body place.Head (λ n e. let two : eqb n 2 ≡
 -- a display extension is not short
 pub display-long : (body : List ℕ) (x : answers.Extension) → displayOf body ≡ good x → displayShort body ≡ false
 unfolding displayOf
-display-long body x e = by-test (displayShort body) (λ t. not-good fault.Short x (rw t at e)) (λ f. f)
+display-long body x e = by-test (displayShort body) (λ t. not-good (rw t at e)) (λ f. f)
 
 plain-good : (body : List ℕ) → ((x : answers.Extension) × (plainOf body ≡ good x)) ↔ ((vs : List ℕ) × Obeys Display body vs)
 unfolding plainOf

@@ -11,7 +11,7 @@ use Rattle.bits.specs.Lists.{All}
 use Rattle.bits.specs.declared.Read.{Read}
 use Rattle.bits.specs.declared.Read.the-variants.{Value, Missing, TooWide}
 use Rattle.bits.proofs.Lists.{by-test}
-use Rattle.layout.specs.Answers.{numberOf, isDisplay, isTwo}
+use Rattle.layout.specs.Reader.{numberOf, isDisplay, isTwo}
 use Rattle.layout.specs.declared.Place.{Place}
 use Rattle.layout.specs.declared.Place.the-variants as place
 use Rattle.layout.specs.declared.SequenceHeader.{SequenceHeader}

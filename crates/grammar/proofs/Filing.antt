@@ -8,17 +8,18 @@ use lib.ListN.{length}
 use lib.Dec.{ltb}
 use borrow.Author.Tests.{ltb-false, le-ltb}
 use native.Mathlib.Omega.{arith}
-use Rattle.bits.specs.Answers.{Outcome, done, refused}
+use Rattle.answers.specs.Answers.{Outcome, done, refused}
 use Rattle.bits.specs.Lists.{All}
 use Rattle.bits.proofs.Lists.{by-test}
-use Rattle.bits.proofs.Outcomes.{not-done}
+use Rattle.answers.proofs.Outcomes.{not-done}
 use Rattle.layout.specs.declared.Place.{Place}
 use Rattle.layout.specs.declared.Place.the-variants as place
 use Rattle.startcode.specs.Prefix.{begins}
 use Rattle.grammar.specs.Lists.{concatMap}
 use Rattle.grammar.specs.Grammar.{StreamUnit, bytes, Picture, Group, Reading, pictureUnits, groupUnits, units, Reads}
 use Rattle.grammar.specs.Rows.{Row, Placed, placed, pictureRow, groupRow, placedUnits, rowLength, rowsFrom, rows}
-use Rattle.grammar.specs.Reader.{cut, placeIn, final, Step, go, stop, step, isNil, addRow, continue, rowAt, fileFrom, filingOfAny, filing, longestStream}
+use Rattle.grammar.specs.Reader.{cut, placeIn, final, Step, go, stop, step, isNil, addRow, continue, rowAt, fileFrom, filingOfAny, filing}
+use Rattle.answers.specs.Limits.{longestStream}
 use Rattle.grammar.specs.declared.State.{State}
 use Rattle.grammar.specs.declared.State.the-variants.{Start}
 use Rattle.grammar.proofs.Cutting.{chunk, cut-units, uncut}

@@ -4,10 +4,11 @@ use mathlib.Core.Path.{_≡_}
 use mathlib.Core.Logic.{_↔_}
 use mathlib.Core.List.{List, [], _∷_}
 use lib.ListN.{length}
-use Rattle.bits.specs.Answers.{done, refused}
+use Rattle.answers.specs.Answers.{done, refused}
 use Rattle.grammar.specs.Grammar.{Reading, Reads}
 use Rattle.grammar.specs.Rows.{Row, rows}
-use Rattle.grammar.specs.Reader.{filing, filingInto, longestStream}
+use Rattle.grammar.specs.Reader.{filing, filingInto}
+use Rattle.answers.specs.Limits.{longestStream}
 use Rattle.grammar.specs.Refusals.{Refuses, RefusesInto}
 use Rattle.grammar.proofs.Filing as filed
 use Rattle.grammar.proofs.Refusals as refusals

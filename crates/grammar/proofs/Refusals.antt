@@ -8,15 +8,16 @@ use native.Mathlib.Omega.{arith}
 use lib.Dec.{ltb}
 use lib.ListN.{length, length-append, length-map}
 use borrow.Author.Tests.{ltb-true, ltb-false, lt-ltb, le-ltb}
-use Rattle.bits.specs.Answers.{Outcome, done, refused, NO-CODE, CUT, OVERLAP, UNENDED, FULL, TOO-LONG}
+use Rattle.answers.specs.Answers.{Outcome, done, refused, NO-CODE, CUT, OVERLAP, UNENDED, FULL, TOO-LONG}
 use Rattle.bits.specs.Lists.{All}
 use Rattle.bits.proofs.Lists.{by-test}
-use Rattle.bits.proofs.Outcomes.{not-refused}
+use Rattle.answers.proofs.Outcomes.{not-refused}
 use Rattle.startcode.specs.Prefix.{begins}
 use Rattle.grammar.specs.Lists.{concatMap}
 use Rattle.grammar.specs.Grammar.{StreamUnit, bytes, Alone, Reading, units}
 use Rattle.grammar.specs.Rows.{Row, Placed, placedUnits, rowsFrom, rows}
-use Rattle.grammar.specs.Reader.{cut, final, Step, go, stop, step, addRow, continue, rowAt, fileFrom, filingOfAny, filing, longestStream, within, filingInto}
+use Rattle.grammar.specs.Reader.{cut, final, Step, go, stop, step, addRow, continue, rowAt, fileFrom, filingOfAny, filing, within, filingInto}
+use Rattle.answers.specs.Limits.{longestStream}
 use Rattle.grammar.specs.Refusals.{HasCode, Stops, unended, cut as cut-short, overlap, breaks, StopsAt, Refuses, too-long, no-code, in-unit, RefusesInto, refuses as refuses-filing, full}
 use Rattle.grammar.specs.declared.State.{State}
 use Rattle.grammar.specs.declared.State.the-variants.{Start}

@@ -7,7 +7,7 @@ use mathlib.Core.Bool.{Bool, true, false, _&&_, _||_}
 use native.Mathlib.Omega.{arith}
 use lib.Dec.{eqb, leb, ltb}
 use borrow.Author.Tests.{eqb-true, ltb-true, leb-true, lt-ltb, le-leb}
-use Rattle.bits.specs.Answers.{done, UNKNOWN, OUT-OF-PLACE, SHORT, VALUE, STUFFING, TWICE}
+use Rattle.answers.specs.Answers.{done, UNKNOWN, OUT-OF-PLACE, SHORT, VALUE, STUFFING, TWICE}
 use Rattle.bits.specs.Lists.{All}
 use Rattle.bits.specs.declared.Read.the-variants.{Value}
 use Rattle.bits.proofs.Lists.{by-test, contrary, and-true, absent, all-append, all-map}
@@ -15,8 +15,8 @@ use Rattle.startcode.specs.Kinds.{kindOf}
 use Rattle.startcode.specs.declared.Kind.{Kind}
 use Rattle.startcode.specs.declared.Kind.the-variants as kind
 use Rattle.startcode.proofs.Exactly.{isUnknown}
-use Rattle.layout.specs.Answers.{headerResult, extensionResult, isDisplay, displayShort, displayOf, numberOf}
-use Rattle.layout.specs.Reading.{Result, good, bad, allZero}
+use Rattle.layout.specs.Reader.{headerResult, extensionResult, isDisplay, displayShort, displayOf, numberOf, Result, allZero}
+use Rattle.answers.specs.Results.{good, bad}
 use Rattle.layout.specs.Breaks.{Breaks as BreaksLayout, BreaksDisplay, BreaksExtension, Numbered}
 use Rattle.layout.specs.declared.Fault.{Fault}
 use Rattle.layout.specs.declared.Layout.the-variants.{Header}

@@ -9,10 +9,10 @@ use native.Mathlib.Omega.{arith}
 use Rattle.bits.specs.Lists.{All}
 use Rattle.bits.specs.Bits.{bitsIn, bitsOf, readOn, readAt}
 use Rattle.bits.proofs.Lists.{all-append, absent}
-use Rattle.layout.specs.Answers.{recordOf, headerResult}
+use Rattle.layout.specs.Reader.{recordOf, headerResult, allows, valuesOf, judge, judged, cross, ended, reading}
 use Rattle.layout.specs.Layouts.{fields, leastBytes}
 use Rattle.layout.specs.Obeys.{AllAllowed}
-use Rattle.layout.specs.Reading.{good, allows, valuesOf, judge, judged, cross, ended, reading}
+use Rattle.answers.specs.Results.{good}
 use Rattle.layout.specs.Records.{headerRecord}
 use Rattle.layout.specs.declared.Layout.the-variants.{Header}
 use Rattle.layout.specs.declared.Place.the-variants as place

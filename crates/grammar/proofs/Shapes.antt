@@ -7,7 +7,7 @@ use mathlib.Core.Bool.{Bool, true, false, _&&_, _||_}
 use native.Mathlib.Omega.{arith}
 use lib.Dec.{eqb, leb, ltb}
 use borrow.Author.Tests.{eqb-true, ltb-true, ltb-false, lt-ltb, le-leb, lt-leb, ne-eqb}
-use Rattle.bits.specs.Answers.{Outcome, done, refused, UNKNOWN}
+use Rattle.answers.specs.Answers.{Outcome, done, refused, UNKNOWN}
 use Rattle.bits.specs.Bits.{bitsIn, bitsOf, readOn, readAt}
 use Rattle.bits.specs.Lists.{All}
 use Rattle.bits.specs.declared.Read.the-variants.{Value}
@@ -16,7 +16,7 @@ use Rattle.startcode.specs.Kinds.{Codes, kindIn, kinds, kindOf}
 use Rattle.startcode.specs.declared.Kind.{Kind}
 use Rattle.startcode.specs.declared.Kind.the-variants as kind
 use Rattle.startcode.proofs.Exactly.{isUnknown, unknown-bytes}
-use Rattle.layout.specs.Answers.{numberOf}
+use Rattle.layout.specs.Reader.{numberOf}
 use Rattle.macroblocks.specs.Macroblocks.{slicesTested}
 use Rattle.startcode.specs.Prefix.{begins}
 use Rattle.grammar.specs.Grammar.{StreamUnit, Alone, Extension, sliceRule}

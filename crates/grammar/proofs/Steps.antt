@@ -8,13 +8,14 @@ use lib.Dec.{eqb, leb, ltb}
 use lib.ListN.{length, drop}
 use borrow.Author.Tests.{eqb-true, ltb-true, ltb-false, leb-false, lt-ltb, le-ltb, lt-leb, ne-eqb, not-false}
 use native.Mathlib.Omega.{arith}
-use Rattle.bits.specs.Answers.{SHORT, VALUE}
+use Rattle.answers.specs.Answers.{SHORT, VALUE}
 use Rattle.bits.specs.Lists.{All}
 use Rattle.bits.specs.declared.Read.the-variants.{Value}
 use Rattle.bits.proofs.Lists.{by-test, contrary, and-true}
-use Rattle.layout.specs.Answers.{headerResult, extensionResult, isDisplay, displayShort, displayOf, faultNumber, numberOf}
+use Rattle.layout.specs.Answers.{faultNumber}
+use Rattle.layout.specs.Reader.{headerResult, extensionResult, isDisplay, displayShort, displayOf, numberOf, Result, allZero}
 use Rattle.layout.specs.Answers as answers
-use Rattle.layout.specs.Reading.{Result, good, bad, allZero}
+use Rattle.answers.specs.Results.{good, bad}
 use Rattle.layout.specs.declared.Place.the-variants as place
 use Rattle.layout.specs.declared.SequenceHeader.{SequenceHeader}
 use Rattle.grammar.specs.Grammar.{StreamUnit, Nonzero, Extension, IsHeader, IsDisplay, PictureExtra, IsSlice, sliceRule}

@@ -8,7 +8,7 @@ use lib.ListN.{length, getD, take, drop, length-drop, length-take}
 use lib.Seq.{drop-cons, drop-drop, drop-length, take-append-seam, take-all}
 use native.Mathlib.Numerals.{add-one}
 use native.Mathlib.Omega.{arith}
-use Rattle.bits.specs.Answers.{Outcome, done, refused, CUT, OVERLAP, UNENDED}
+use Rattle.answers.specs.Answers.{Outcome, done, refused, CUT, OVERLAP, UNENDED}
 use Rattle.bits.proofs.Lists.{by-test}
 use Rattle.startcode.specs.Prefix.{begins, before, nextPrefix}
 use Rattle.startcode.proofs.Laws.{before-hit, before-miss, before-le, before-found, search-start}

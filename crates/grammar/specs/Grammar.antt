@@ -8,7 +8,7 @@ use mathlib.Core.Bool.{true}
 use mathlib.Core.Option.{some}
 use Rattle.bits.specs.Lists.{All}
 use Rattle.bits.specs.declared.Read.the-variants.{Value}
-use Rattle.layout.specs.Answers.{numberOf}
+use Rattle.layout.specs.Reader.{numberOf}
 use Rattle.layout.specs.Obeys.{Obeys}
 use Rattle.layout.specs.Records.{headerRecord}
 use Rattle.layout.specs.declared.Layout.the-variants.{Header, Display, Coloured, Copyright}

@@ -5,9 +5,11 @@ use mathlib.Core.List.{List, [], _∷_}
 use mathlib.Core.Bool.{Bool, true, false, cond, _&&_, _||_, not}
 use lib.Dec.{eqb, leb, ltb}
 use lib.ListN.{length, drop}
-use Rattle.bits.specs.Answers.{Outcome, done, refused, mapDone, NO-CODE, CUT, OVERLAP, UNKNOWN, OUT-OF-PLACE, SHORT, VALUE, STUFFING, TWICE, UNENDED, FULL, TOO-LONG}
-use Rattle.layout.specs.Answers.{headerResult, extensionResult, isDisplay, displayShort, displayOf, faultNumber}
-use Rattle.layout.specs.Reading.{Result, good, bad, allZero}
+use Rattle.answers.specs.Limits.{longestStream}
+use Rattle.answers.specs.Answers.{Outcome, done, refused, mapDone, NO-CODE, CUT, OVERLAP, UNKNOWN, OUT-OF-PLACE, SHORT, VALUE, STUFFING, TWICE, UNENDED, FULL, TOO-LONG}
+use Rattle.layout.specs.Answers.{faultNumber}
+use Rattle.layout.specs.Reader.{headerResult, extensionResult, isDisplay, displayShort, displayOf, Result, allZero}
+use Rattle.answers.specs.Results.{good, bad}
 use Rattle.layout.specs.declared.Place.{Place}
 use Rattle.layout.specs.declared.Place.the-variants as place
 use Rattle.startcode.specs.Prefix.{begins}
@@ -160,10 +162,6 @@ fileFrom ((code ∷ body) ∷ chunks) q at =
 -- filing of a stream of any length
 unfoldable pub filingOfAny : List ℕ → Outcome (List Row)
 filingOfAny stream = cond (begins stream) (fileFrom (cut stream .chunks) state.Start 0) (refused NO-CODE (0 ∷ []))
-
--- the most bytes of a stream
-abbrev pub longestStream : ℕ
-longestStream = 16_777_216
 
 -- the rows of a stream, whatever is lent for them
 unfoldable pub filing : List ℕ → Outcome (List Row)

@@ -6,13 +6,13 @@ use mathlib.Core.Logic.{_≢_, _⊎_}
 use mathlib.Core.List.{List, [], _∷_, _++_, map}
 use mathlib.Core.Bool.{true}
 use lib.ListN.{length}
-use Rattle.bits.specs.Answers.{Outcome, done, refused, NO-CODE, CUT, OVERLAP, UNKNOWN, OUT-OF-PLACE, SHORT, VALUE, STUFFING, TWICE, UNENDED, FULL, TOO-LONG}
+use Rattle.answers.specs.Answers.{Outcome, done, refused, NO-CODE, CUT, OVERLAP, UNKNOWN, OUT-OF-PLACE, SHORT, VALUE, STUFFING, TWICE, UNENDED, FULL, TOO-LONG}
 use Rattle.bits.specs.Lists.{All}
 use Rattle.bits.specs.declared.Read.the-variants.{Value}
 use Rattle.startcode.specs.Kinds.{kindOf}
 use Rattle.startcode.specs.declared.Kind.{Kind}
 use Rattle.startcode.specs.declared.Kind.the-variants as kind
-use Rattle.layout.specs.Answers.{numberOf}
+use Rattle.layout.specs.Reader.{numberOf}
 use Rattle.layout.specs.Breaks.{Breaks as BreaksLayout, ShortDisplay, BreaksDisplay, BreaksExtension, Numbered}
 use Rattle.layout.specs.declared.Layout.the-variants.{Header}
 use Rattle.layout.specs.declared.Place.the-variants as place
@@ -20,7 +20,7 @@ use Rattle.layout.specs.declared.SequenceHeader.{SequenceHeader}
 use Rattle.macroblocks.specs.Macroblocks.{macroblockRows, slicesTested}
 use Rattle.grammar.specs.Lists.{AtMostOne, concatMap}
 use Rattle.grammar.specs.Grammar.{StreamUnit, bytes, Alone, Reading, units, IsHeader, Nonzero, DisplayUnit, Reads}
-use Rattle.grammar.specs.Reader.{longestStream}
+use Rattle.answers.specs.Limits.{longestStream}
 
 -- ── sentences and their shapes ──
 

@@ -4,8 +4,9 @@ use mathlib.Core.List.{List, [], _∷_, _++_, map}
 use mathlib.Core.Bool.{Bool, true, false, cond, _&&_, _||_}
 use lib.Dec.{eqb}
 use lib.ListN.{length}
-use Rattle.bits.specs.Answers.{Outcome, done, refused}
-use Rattle.layout.specs.Answers.{Extension, display, copyright, opaque, extensionOf}
+use Rattle.answers.specs.Answers.{Outcome, done, refused}
+use Rattle.layout.specs.Answers.{Extension, display, copyright, opaque}
+use Rattle.layout.specs.Reader.{extensionOf}
 use Rattle.layout.specs.declared.Place.{Place}
 use Rattle.layout.specs.declared.Place.the-variants as place
 use Rattle.grammar.specs.Lists.{concatMap}

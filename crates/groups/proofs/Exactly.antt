@@ -6,14 +6,15 @@ use mathlib.Core.List.{List, [], _∷_, _++_, map}
 use lib.Dec.{ltb}
 use lib.ListN.{length}
 use native.Mathlib.Omega.{arith}
-use Rattle.bits.specs.Answers.{Outcome, done, refused, NO-ROW}
+use Rattle.answers.specs.Answers.{Outcome, done, refused, NO-ROW}
 use Rattle.bits.specs.Lists.{All}
 use Rattle.bits.proofs.Lists.{by-test}
-use Rattle.bits.proofs.Outcomes.{not-done, not-refused}
+use Rattle.answers.proofs.Outcomes.{not-done, not-refused}
 use Rattle.startcode.specs.Prefix.{begins}
 use Rattle.grammar.specs.Grammar.{StreamUnit, bytes, Group, Reading, Reads, units, IsGroup}
 use Rattle.grammar.specs.Rows.{Row, rows}
-use Rattle.grammar.specs.Reader.{Cut, cut, Step, go, stop, step, final, addRow, continue, rowAt, fileFrom, filingOfAny, filing, longestStream}
+use Rattle.grammar.specs.Reader.{Cut, cut, Step, go, stop, step, final, addRow, continue, rowAt, fileFrom, filingOfAny, filing}
+use Rattle.answers.specs.Limits.{longestStream}
 use Rattle.grammar.specs.declared.State.{State}
 use Rattle.grammar.specs.declared.State.the-variants.{Start}
 use Rattle.grammar.proofs.Cutting.{chunk, cut-units}

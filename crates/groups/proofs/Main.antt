@@ -4,9 +4,10 @@ use mathlib.Core.Path.{_≡_}
 use mathlib.Core.Logic.{_↔_}
 use mathlib.Core.List.{List, [], _∷_}
 use lib.ListN.{length}
-use Rattle.bits.specs.Answers.{refused}
+use Rattle.answers.specs.Answers.{refused}
 use Rattle.grammar.specs.Grammar.{Reading, Reads}
-use Rattle.grammar.specs.Reader.{filing, longestStream}
+use Rattle.grammar.specs.Reader.{filing}
+use Rattle.answers.specs.Limits.{longestStream}
 use Rattle.groups.specs.Groups.{groupAt, groupSays}
 use Rattle.groups.specs.Readings.{GroupOfReading, GroupByReading}
 use Rattle.groups.specs.declared.GroupAnswer.{GroupAnswer}

@@ -8,16 +8,16 @@ use lib.Dec.{eqb}
 use lib.ListN.{length}
 use borrow.Author.Tests.{ne-eqb}
 use native.Mathlib.Omega.{arith}
-use Rattle.bits.specs.Answers.{done, refused, NO-ROW}
+use Rattle.answers.specs.Answers.{done, refused, NO-ROW}
 use Rattle.bits.specs.Lists.{All}
 use Rattle.bits.specs.declared.Read.{Read}
 use Rattle.bits.specs.declared.Read.the-variants.{Value, Missing, TooWide}
 use Rattle.bits.proofs.Lists.{by-test, absent, all-append, all-map}
-use Rattle.bits.proofs.Outcomes.{not-done, not-refused}
-use Rattle.layout.specs.Answers.{answerOf, recordOf, headerOf, extensionResult, extensionOf, byNumber, copyrightOf, numberOf, isDisplay, isTwo}
+use Rattle.answers.proofs.Outcomes.{not-done, not-refused}
+use Rattle.layout.specs.Reader.{answerOf, recordOf, headerOf, extensionResult, extensionOf, byNumber, copyrightOf, numberOf, isDisplay, isTwo, Result}
 use Rattle.layout.specs.Answers as answers
 use Rattle.layout.specs.Obeys.{DisplayBody, plain, coloured}
-use Rattle.layout.specs.Reading.{Result, good, bad, _>>=_}
+use Rattle.answers.specs.Results.{good, bad, _>>=_}
 use Rattle.layout.specs.Records.{copyrightRecord}
 use Rattle.layout.specs.declared.CopyrightExtension.{CopyrightExtension}
 use Rattle.layout.specs.declared.DisplayExtension.{DisplayExtension}

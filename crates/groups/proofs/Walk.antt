@@ -8,14 +8,15 @@ use lib.ListN.{length, drop}
 use lib.Seq.{drop-length}
 use borrow.Author.Tests.{ltb-true, ltb-false}
 use native.Mathlib.Omega.{arith}
-use Rattle.bits.specs.Answers.{Outcome, done, refused, mapDone, NO-ROW}
+use Rattle.answers.specs.Answers.{Outcome, done, refused, mapDone, NO-ROW}
 use Rattle.bits.proofs.Lists.{by-test}
-use Rattle.bits.proofs.Outcomes.{not-done, not-refused}
+use Rattle.answers.proofs.Outcomes.{not-done, not-refused}
 use Rattle.startcode.specs.Prefix.{begins, nextPrefix}
 use Rattle.startcode.proofs.Laws.{search-start, search-hit}
 use Rattle.grammar.specs.Grammar.{StreamUnit}
 use Rattle.grammar.specs.Rows.{Row}
-use Rattle.grammar.specs.Reader.{cut, filing, filingOfAny, longestStream}
+use Rattle.grammar.specs.Reader.{cut, filing, filingOfAny}
+use Rattle.answers.specs.Limits.{longestStream}
 use Rattle.grammar.proofs.Walk.{prefix-fits, chunks-cut, chunks-overlap, unitBetween, next-fits, chunks-unit, next-begins}
 use Rattle.groups.specs.Groups.{GroupRecord, unitsIn, beginsGroup, inGroupHead, displayBy, displayIn, addGroup, groupsIn, groupNumber, unlessRefused, groupAt}
 use Rattle.groups.specs.declared.Begins.{Begins}

@@ -4,8 +4,9 @@ use Prim.Native.Nat.{ℕ, zero, suc}
 use mathlib.Core.List.{List, [], _∷_}
 use mathlib.Core.Bool.{cond}
 use lib.Dec.{eqb}
-use Rattle.bits.specs.Answers.{Outcome, done, refused, NO-ROW}
-use Rattle.layout.specs.Answers.{Extension, display, copyright, opaque, headerOf, extensionOf}
+use Rattle.answers.specs.Answers.{Outcome, done, refused, NO-ROW}
+use Rattle.layout.specs.Answers.{Extension, display, copyright, opaque}
+use Rattle.layout.specs.Reader.{headerOf, extensionOf}
 use Rattle.layout.specs.declared.Place.the-variants as place
 use Rattle.layout.specs.declared.SequenceHeader.{SequenceHeader}
 use Rattle.grammar.specs.Grammar.{StreamUnit}

@@ -4,12 +4,13 @@ use mathlib.Core.Path.{_≡_}
 use mathlib.Core.Logic.{_↔_}
 use mathlib.Core.List.{List, [], _∷_, _++_}
 use lib.ListN.{length}
-use Rattle.bits.specs.Answers.{done, refused, NO-ROW}
+use Rattle.answers.specs.Answers.{done, refused, NO-ROW}
 use Rattle.bits.specs.Lists.{All}
 use Rattle.layout.specs.Obeys.{DisplayBody}
 use Rattle.layout.specs.declared.DisplayExtension.{DisplayExtension}
 use Rattle.grammar.specs.Grammar.{StreamUnit, Group, Reading, Reads, IsHeader, DisplayUnit}
-use Rattle.grammar.specs.Reader.{filing, longestStream}
+use Rattle.grammar.specs.Reader.{filing}
+use Rattle.answers.specs.Limits.{longestStream}
 use Rattle.groups.specs.Groups.{GroupRecord, groupAt}
 use Rattle.groups.specs.declared.Display.{Display}
 use Rattle.groups.specs.declared.Display.the-variants as displayed

@@ -8,13 +8,15 @@ use native.Mathlib.Omega.{arith}
 use borrow.Author.Tests.{le-ltb}
 use lib.Dec.{eqb, ltb}
 use lib.ListN.{length, take}
-use Rattle.bits.specs.Answers.{Outcome, refused}
+use Rattle.answers.specs.Answers.{Outcome, refused}
 use Rattle.bits.specs.Bits.{bitsOf, bitAt}
 use Rattle.bits.specs.declared.Bit.{Bit}
 use Rattle.layout.specs.Layouts.{fields, leastBytes}
 use Rattle.layout.specs.Obeys.{Fits}
-use Rattle.layout.specs.Reading.{Result, good, bad, _>>=_, _>>_, refuseIf, recorded, verdictSays, bodySays, reading}
-use Rattle.layout.specs.Answers.{faultNumber, answerOf, recordOf, Extension, colouredOf, plainOf, isOne, readBit, displayShort, displayOf}
+use Rattle.layout.specs.Reader.{Result, _>>_, refuseIf, recorded, reading, answerOf, recordOf, colouredOf, plainOf, isOne, readBit, displayShort, displayOf}
+use Rattle.answers.specs.Results.{good, bad, _>>=_}
+use Rattle.layout.specs.Inside.{verdictSays, bodySays}
+use Rattle.layout.specs.Answers.{faultNumber, Extension}
 use Rattle.layout.specs.declared.Layout.{Layout}
 use Rattle.layout.specs.declared.Fault.{Fault}
 use Rattle.layout.specs.declared.Fault.the-variants.{Short}

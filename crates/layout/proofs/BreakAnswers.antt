@@ -10,7 +10,8 @@ use borrow.Author.Tests.{eqb-true, eqb-false, ltb-true, ltb-false, lt-ltb}
 use lib.Dec.{eqb, ltb}
 use lib.ListN.{length, getD}
 use lib.Seq.{drop-cons}
-use Rattle.bits.specs.Answers.{refused}
+use Rattle.answers.proofs.Results.{not-bad}
+use Rattle.answers.specs.Answers.{refused}
 use Rattle.bits.specs.Bits.{bitsIn, bitsOf, bitAt, readOn, readAt}
 use Rattle.bits.specs.declared.Bit.{Bit}
 use Rattle.bits.specs.declared.Bit.the-variants as bit
@@ -20,8 +21,9 @@ use Rattle.bits.proofs.Laws.{length-bits, all-bits, bit-here, bit-small}
 use Rattle.layout.specs.Layouts.{fields, leastBytes}
 use Rattle.layout.specs.Records.{headerRecord, plainRecord, colouredRecord, copyrightRecord}
 use Rattle.layout.specs.Obeys.{Fits}
-use Rattle.layout.specs.Reading.{Result, good, bad, _>>=_, short}
-use Rattle.layout.specs.Answers.{answerOf, recordOf, headerResult, Extension, display, copyright, opaque, plainOf, colouredOf, copyrightOf, isOne, displayShort, displayOf, numberOf, notCopyright, byNumber, extensionResult}
+use Rattle.layout.specs.Reader.{Result, short, answerOf, recordOf, headerResult, plainOf, colouredOf, copyrightOf, isOne, displayShort, displayOf, numberOf, notCopyright, byNumber, extensionResult}
+use Rattle.answers.specs.Results.{good, bad, _>>=_}
+use Rattle.layout.specs.Answers.{Extension, display, copyright, opaque}
 use Rattle.layout.specs.Breaks.{Breaks, Numbered, ColourGiven, ShortDisplay, BreaksDisplay, short-display, coloured, plain, BreaksExtension, empty}
 use Rattle.layout.specs.Breaks as breaks
 use Rattle.layout.specs.declared.Layout.{Layout}
@@ -37,9 +39,6 @@ use Rattle.layout.proofs.BreakLaws.{breaks-if, if-breaks}
 use Rattle.layout.proofs.ExtensionLaws.{record-bad, bad-record, wrapped-bad, header-made, plain-made, coloured-made}
 
 -- ── records ──
-
-good-bad : {A P : Type 0} (a : A) (why : Fault) → good a ≡ bad why → P
-good-bad a why e = let z : _≡_ {A = ℕ} 0 1 = cc in absurd (omega arith)
 
 pub copyright-made : (vs : List ℕ) → Fits (fields Copyright) vs → (c : CopyrightExtension) × (copyrightRecord vs ≡ some c)
 unfolding copyrightRecord fields
@@ -76,7 +75,7 @@ pub answer-refused : {A : Type 0} (r : Result A) (Broken : Fault → Type 0) →
 unfolding answerOf
 answer-refused (good a) Broken iff n = (
   (λ e. let z : _≡_ {A = ℕ} 0 1 = cc in absurd (omega arith)),
-  λ b. good-bad a (b .0) (iff (b .0) .1 (b .1)),
+  λ b. not-bad (iff (b .0) .1 (b .1)),
 )
 answer-refused (bad f) Broken iff n = (
   (λ e. (f, iff f .0 refl, cc)),
@@ -160,8 +159,8 @@ number-breaks : (place : Place) (body : List ℕ) (n : ℕ) (why : Fault) → nu
 number-breaks Head body n why i e =
     by-test (eqb n 2)
     (λ t. breaks.display (i ∙ ap Value (eqb-true n 2 t)) refl (display-bad body why .0 (rw t at e)))
-    (λ f. good-bad (opaque n) why (rw f at e))
-number-breaks Picture body n why i e = good-bad (opaque n) why e
+    (λ f. not-bad (rw f at e))
+number-breaks Picture body n why i e = not-bad e
 
 extension-breaks : (place : Place) (body : List ℕ) (why : Fault) → extensionResult place body ≡ bad why → BreaksExtension place body why
 unfolding extensionResult byNumber

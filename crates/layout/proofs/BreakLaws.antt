@@ -9,6 +9,7 @@ use borrow.Author.Tests.{eqb-true, eqb-false, eq-eqb, ne-eqb, ltb-true, ltb-fals
 use lib.Dec.{eqb, ltb}
 use lib.ListN.{length, take, drop, take-append-drop}
 use lib.Seq.{take-at, drop-at}
+use Rattle.answers.proofs.Results.{bad-same}
 use Rattle.bits.specs.Lists.{All}
 use Rattle.bits.specs.Bits.{bitsOf, readOn, readAt}
 use Rattle.bits.specs.declared.Read.{Read}
@@ -20,8 +21,9 @@ use Rattle.layout.specs.Layouts.{nameOf, widthOf, ruleOf, Allowed, byRul
 use Rattle.layout.specs.Records.{copyrightRecord}
 use Rattle.layout.specs.Obeys.{Fits, AllAllowed, written}
 use Rattle.layout.specs.Breaks.{Holds, FirstWrong, Disowned, unflagged, unowned, BreaksAcross, Breaks, short, wrong, across, ended}
-use Rattle.layout.specs.Reading.{allows, Result, good, bad, _>>=_, _>>_, refuseIf, both, valuesOf, judge, ownerRules, crossRecord, cross, judged, stuffing, reading}
-use Rattle.layout.specs.Reading as reader
+use Rattle.layout.specs.Reader.{allows, Result, _>>_, refuseIf, both, valuesOf, judge, ownerRules, crossRecord, cross, judged, stuffing, reading}
+use Rattle.answers.specs.Results.{good, bad, _>>=_}
+use Rattle.layout.specs.Reader as reader
 use Rattle.layout.specs.declared.Name.{Name}
 use Rattle.layout.specs.declared.Name.the-variants.{Owner, CopyrightNumber}
 use Rattle.layout.specs.declared.Values.{Values}
@@ -93,9 +95,6 @@ fine-then v r e = rw e
 
 faulty-same : (a b : Fault) → Faulty a ≡ Faulty b → a ≡ b
 faulty-same a b e = cc
-
-bad-same : {A : Type 0} (a b : Fault) → _≡_ {A = Result A} (bad a) (bad b) → a ≡ b
-bad-same a b e = cc
 
 -- ── the first field that is ruled out ──
 
@@ -220,7 +219,7 @@ broken-cross Copyright vs why h = ap crossRecord (h .1) ∙ disowned-rules (h .0
 
 then-split : {A P : Type 0} (v : Verdict) (r : Result A) (why : Fault) → (v >> r) ≡ bad why → (v ≡ Faulty why → P) → (v ≡ Fine → r ≡ bad why → P) → P
 then-split Fine r why e f g = g refl e
-then-split {A} (Faulty a) r why e f g = f (ap Faulty (bad-same {A = A} a why e))
+then-split {A} (Faulty a) r why e f g = f (ap Faulty (bad-same {A = A} e))
 
 both-split : {P : Type 0} (v w : Verdict) (why : Fault) → both v w ≡ Faulty why → (v ≡ Faulty why → P) → (v ≡ Fine → w ≡ Faulty why → P) → P
 both-split Fine w why e f g = g refl e
@@ -230,7 +229,7 @@ pub breaks-if : (layout : Layout) (body : List ℕ) (why : Fault) → reading la
 unfolding judged reader.ended
 breaks-if layout body why e =
     by-test (ltb (length body) (leastBytes layout))
-    (λ t. let h = ltb-true (length body) (leastBytes layout) t in short h (bad-same {A = List ℕ} why fault.Short (sym e ∙ reading-short layout body h)))
+    (λ t. let h = ltb-true (length body) (leastBytes layout) t in short h (bad-same {A = List ℕ} (sym e ∙ reading-short layout body h)))
     (λ n.
     let h = holds layout body (ltb-false (length body) (leastBytes layout) n) in
     let vs = h .0 in

@@ -15,7 +15,7 @@ use Rattle.bits.specs.Bits.{bitsIn, bitsOf, readOn}
 use Rattle.bits.specs.declared.Read.the-variants.{Value}
 use Rattle.bits.proofs.Lists.{all-drop}
 use Rattle.bits.proofs.Laws.{length-in, reads-written}
-use Rattle.layout.specs.Reading.{allZero, stuffing}
+use Rattle.layout.specs.Reader.{allZero, stuffing}
 
 abbrev pub Byte : ℕ → Type 0
 Byte x = x < 256

@@ -9,7 +9,7 @@ use native.Mathlib.Omega.{arith}
 use borrow.Author.Tests.{eqb-true, eqb-false, ne-eqb, le-ltb, ltb-false}
 use lib.Dec.{eqb, ltb}
 use lib.ListN.{length, getD, take, drop, replicate, length-drop}
-use Rattle.bits.specs.Answers.{done, refused, SHORT}
+use Rattle.answers.specs.Answers.{done, refused, SHORT}
 use Rattle.bits.specs.Bits.{bitsOf, bitAt, readOn, readAt}
 use Rattle.bits.specs.declared.Bit.{Bit}
 use Rattle.bits.specs.declared.Bit.the-variants as bit
@@ -21,8 +21,9 @@ use Rattle.layout.specs.Layouts.{widthOf, ruleOf, Allowed, marker, field
 use Rattle.layout.specs.Records.{headerRecord, plainRecord, colouredRecord, copyrightRecord}
 use Rattle.layout.specs.Obeys.{AllAllowed, Fits, Obeys, HeaderBody, DisplayBody, plain, coloured, CopyrightBody}
 use Rattle.layout.specs.Breaks.{Holds}
-use Rattle.layout.specs.Reading.{Result, good, bad, _>>=_, refuseIf, readValue, recorded, valuesOf, reading}
-use Rattle.layout.specs.Answers.{faultNumber, answerOf, recordOf, headerOf, Extension, display, copyright, opaque, plainOf, colouredOf, copyrightOf, isOne, readBit, displayShort, displayOf, numberOf, isTwo, isDisplay, notCopyright, byNumber, extensionResult, extensionOf}
+use Rattle.layout.specs.Reader.{Result, refuseIf, readValue, recorded, valuesOf, reading, answerOf, recordOf, headerOf, plainOf, colouredOf, copyrightOf, isOne, readBit, displayShort, displayOf, numberOf, isTwo, isDisplay, notCopyright, byNumber, extensionResult, extensionOf}
+use Rattle.answers.specs.Results.{good, bad, _>>=_}
+use Rattle.layout.specs.Answers.{faultNumber, Extension, display, copyright, opaque}
 use Rattle.layout.specs.declared.Field.{Field}
 use Rattle.layout.specs.declared.Layout.{Layout}
 use Rattle.layout.specs.declared.Layout.the-variants.{Header, Display, Coloured, Copyright}
@@ -34,7 +35,8 @@ use Rattle.layout.specs.declared.SequenceHeader.{SequenceHeader}
 use Rattle.layout.specs.declared.DisplayExtension.{DisplayExtension}
 use Rattle.layout.specs.declared.CopyrightExtension.{CopyrightExtension}
 use Rattle.layout.proofs.LayoutLaws.{each-at, fits-length, spelled}
-use Rattle.layout.proofs.ObeyLaws.{bind-good, then-good, good-same, value-good, obeys-if, if-obeys}
+use Rattle.layout.proofs.ObeyLaws.{then-good, value-good, obeys-if, if-obeys}
+use Rattle.answers.proofs.Results.{bind-good, good-same}
 use Rattle.layout.proofs.BreakLaws.{held-read, short-if}
 use Rattle.layout.proofs.AnswerLaws.{short-by, display-short, display-long}
 
@@ -98,12 +100,12 @@ value-read bits (f ∷ fs) at vs zero e h =
     let first = bind-good (readValue (readAt bits at (widthOf f))) _ vs e in
     let later = bind-good (valuesOf fs (at + widthOf f) bits) _ vs (first .2) in
     let z : at + 0 ≡ at = omega arith in
-    rw z (value-good _ _ (first .1) ∙ ap (λ (l : List ℕ). read.Value (getD l 0 0)) (good-same _ vs (later .2)))
+    rw z (value-good _ _ (first .1) ∙ ap (λ (l : List ℕ). read.Value (getD l 0 0)) (good-same (later .2)))
 value-read bits (f ∷ fs) at vs (suc i) e h =
     let first = bind-good (readValue (readAt bits at (widthOf f))) _ vs e in
     let later = bind-good (valuesOf fs (at + widthOf f) bits) _ vs (first .2) in
     let z : at + (widthOf f + bitCount (take i fs)) ≡ at + widthOf f + bitCount (take i fs) = omega arith in
-    rw z (value-read bits fs (at + widthOf f) (later .0) i (later .1) (omega arith) ∙ ap (λ (l : List ℕ). read.Value (getD l (suc i) 0)) (good-same _ vs (later .2)))
+    rw z (value-read bits fs (at + widthOf f) (later .0) i (later .1) (omega arith) ∙ ap (λ (l : List ℕ). read.Value (getD l (suc i) 0)) (good-same (later .2)))
 
 -- a body's field i has value i
 held-field : (layout : Layout) (body vs end : List ℕ) → Holds layout body vs end → (i : ℕ) → i < length (fields layout) →
@@ -164,7 +166,7 @@ coloured-bit body vs h =
 -- ── display extensions ──
 
 wrapped : {A : Type 0} (r : Result A) (wrap : A → Extension) (x : Extension) → (r >>= (λ a. good (wrap a))) ≡ good x → (a : A) × (r ≡ good a) × (x ≡ wrap a)
-wrapped r wrap x e = let b = bind-good r _ x e in (b .0, b .1, sym (good-same (wrap (b .0)) x (b .2)))
+wrapped r wrap x e = let b = bind-good r _ x e in (b .0, b .1, sym (good-same (b .2)))
 
 by-cond : {A P : Type 0} (t : Bool) (a b : Result A) (x : A) → cond t a b ≡ good x → (a ≡ good x → P) → (b ≡ good x → P) → P
 by-cond true a b x e f g = f e
@@ -229,9 +231,9 @@ by-place Head body n x r f e =
     by-test (eqb n 2)
     (λ t. let h = display-if body x (sym (ap (λ (b : Bool). cond b (displayOf body) (good (opaque n))) t) ∙ e) in as-display (h .0) refl (h .1) (h .2))
     (λ o.
-    as-opaque n (sym (good-same (opaque n) x (sym (ap (λ (b : Bool). cond b (displayOf body) (good (opaque n))) o) ∙ e))) r f
+    as-opaque n (sym (good-same (sym (ap (λ (b : Bool). cond b (displayOf body) (good (opaque n))) o) ∙ e))) r f
     (λ p. eqb-false n 2 o))
-by-place Picture body n x r f e = as-opaque n (sym (good-same (opaque n) x e)) r f (λ p. let z : _≡_ {A = ℕ} 0 1 = cc in absurd (omega arith))
+by-place Picture body n x r f e = as-opaque n (sym (good-same e)) r f (λ p. let z : _≡_ {A = ℕ} 0 1 = cc in absurd (omega arith))
 
 pub extension-if : (place : Place) (body : List ℕ) (x : Extension) → extensionResult place body ≡ good x → Answers place body x
 unfolding extensionResult byNumber

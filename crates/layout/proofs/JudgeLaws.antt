@@ -9,7 +9,9 @@ use lib.ListN.{length, drop}
 use Rattle.bits.specs.Bits.{bitsOf}
 use Rattle.layout.specs.Layouts.{fields, bitCount, leastBytes}
 use Rattle.layout.specs.Records.{copyrightRecord}
-use Rattle.layout.specs.Reading.{Result, good, bad, _>>=_, _>>_, refuseIf, both, valuesOf, judge, ownerRules, crossRecord, cross, judged, stuffing, ended, verdictSays, reading}
+use Rattle.layout.specs.Reader.{Result, _>>_, refuseIf, both, valuesOf, judge, ownerRules, crossRecord, cross, judged, stuffing, ended, reading}
+use Rattle.answers.specs.Results.{good, bad, _>>=_}
+use Rattle.layout.specs.Inside.{verdictSays}
 use Rattle.layout.specs.declared.Layout.{Layout}
 use Rattle.layout.specs.declared.Layout.the-variants.{Copyright}
 use Rattle.layout.specs.declared.Fault.the-variants.{Short, Stuffing}

@@ -1,5 +1,6 @@
 -- The laws that the proofs cite, and the theorems.
 pub mod LayoutLaws
+pub mod NumberLaws
 pub mod ReadingLaws
 pub mod EndLaws
 pub mod RecordLaws

@@ -5,15 +5,17 @@ use mathlib.Core.Logic.{_↔_, _≢_}
 use mathlib.Core.List.{List, []}
 use mathlib.Core.Bool.{true}
 use lib.ListN.{length, getD}
-use Rattle.bits.specs.Answers.{done, refused, SHORT}
+use Rattle.answers.proofs.Results.{good-same}
+use Rattle.answers.specs.Answers.{done, refused, SHORT}
 use Rattle.bits.specs.Bits.{bitsOf, bitAt}
 use Rattle.bits.specs.declared.Bit.the-variants.{Is}
 use Rattle.bits.specs.declared.Read.the-variants.{Value}
 use Rattle.layout.specs.Layouts.{leastBytes}
 use Rattle.layout.specs.Obeys.{Obeys, HeaderBody, DisplayBody, CopyrightBody}
 use Rattle.layout.specs.Breaks.{Holds, Breaks, Numbered, BreaksExtension}
-use Rattle.layout.specs.Reading.{good, bad, reading}
-use Rattle.layout.specs.Answers.{headerResult, headerSays, headerOf, display, copyright, opaque, extensionSays, numberOf, isDisplay, displayShort, extensionResult, extensionOf}
+use Rattle.layout.specs.Reader.{reading, headerResult, headerOf, numberOf, isDisplay, displayShort, extensionResult, extensionOf}
+use Rattle.answers.specs.Results.{good, bad}
+use Rattle.layout.specs.Answers.{headerSays, display, copyright, opaque, extensionSays}
 use Rattle.layout.specs.declared.Layout.{Layout}
 use Rattle.layout.specs.declared.Layout.the-variants.{Header, Display, Coloured, Copyright}
 use Rattle.layout.specs.declared.Fault.{Fault}
@@ -26,7 +28,7 @@ use Rattle.layout.specs.declared.ExtensionAnswer.{ExtensionAnswer}
 use Rattle.layout.specs.declared.Place.{Place}
 use Rattle.layout.specs.declared.Place.the-variants.{Head}
 use Rattle.layout.proofs.JudgeLaws.{reading-short}
-use Rattle.layout.proofs.ObeyLaws.{good-same, obeys-if, if-obeys}
+use Rattle.layout.proofs.ObeyLaws.{obeys-if, if-obeys}
 use Rattle.layout.proofs.BreakLaws.{breaks-if, if-breaks, short-if}
 use Rattle.layout.proofs.BreakAnswers as breaks
 use Rattle.layout.proofs.ExtensionLaws as laws
@@ -40,7 +42,7 @@ obeys-iff layout body vs = (obeys-if layout body vs, if-obeys layout body vs)
 
 -- A body has no other values.
 pub values-once : (layout : Layout) (body vs us : List ℕ) → Obeys layout body vs → Obeys layout body us → vs ≡ us
-values-once layout body vs us h k = good-same vs us (sym (if-obeys layout body vs h) ∙ if-obeys layout body us k)
+values-once layout body vs us h k = good-same (sym (if-obeys layout body vs h) ∙ if-obeys layout body us k)
 
 -- Reading refuses exactly what breaks the layout, for the first thing that does.
 pub breaks-iff : (layout : Layout) (body : List ℕ) (why : Fault) → (reading layout body ≡ bad why) ↔ Breaks layout body why

@@ -10,6 +10,7 @@ use borrow.Author.Tests.{eqb-true, eqb-false, eq-eqb, ne-eqb, leb-true, le-leb, 
 use lib.Dec.{eqb, leb}
 use lib.ListN.{length, take, drop, replicate, length-append, take-append-drop}
 use lib.Seq.{take-all, take-at, drop-at, take-add, take-take, drop-drop}
+use Rattle.answers.proofs.Results.{bind-good, good-same}
 use Rattle.bits.specs.Lists.{All}
 use Rattle.bits.specs.Bits.{bitsIn, bitsOf, payload, readAt}
 use Rattle.bits.specs.declared.Read.{Read}
@@ -20,7 +21,8 @@ use Rattle.bits.proofs.Main.{read-exactly}
 use Rattle.layout.specs.Layouts.{widthOf, ruleOf, Allowed, faultAt, fields, bitCount}
 use Rattle.layout.specs.Records.{copyrightRecord}
 use Rattle.layout.specs.Obeys.{Fits, AllAllowed, Owned, Crossed, written, Obeys}
-use Rattle.layout.specs.Reading.{allows, Result, good, bad, _>>=_, _>>_, refuseIf, both, readValue, short, valuesOf, judge, ownerRules, crossRecord, cross, judged, allZero, stuffing, ended, reading}
+use Rattle.layout.specs.Reader.{allows, Result, _>>_, refuseIf, both, readValue, short, valuesOf, judge, ownerRules, crossRecord, cross, judged, allZero, stuffing, ended, reading}
+use Rattle.answers.specs.Results.{good, bad, _>>=_}
 use Rattle.layout.specs.declared.Values.{Values}
 use Rattle.layout.specs.declared.Values.the-variants as rule
 use Rattle.layout.specs.declared.Name.the-variants.{Owner}
@@ -39,19 +41,12 @@ use Rattle.layout.proofs.JudgeLaws.{reading-long}
 
 -- ── results ──
 
-pub bind-good : {A B : Type 0} (r : Result A) (next : A → Result B) (b : B) → (r >>= next) ≡ good b → (a : A) × (r ≡ good a) × (next a ≡ good b)
-bind-good (good a) next b e = (a, refl, e)
-bind-good (bad why) next b e = let z : _≡_ {A = ℕ} 0 1 = cc in absurd (omega arith)
-
 pub then-good : {A : Type 0} (v : Verdict) (r : Result A) (a : A) → (v >> r) ≡ good a → (v ≡ Fine) × (r ≡ good a)
 then-good Fine r a e = (refl, e)
 then-good (Faulty why) r a e = let z : _≡_ {A = ℕ} 0 1 = cc in absurd (omega arith)
 
 good-then : {A : Type 0} (v : Verdict) (r : Result A) → v ≡ Fine → (v >> r) ≡ r
 good-then v r e = rw e
-
-pub good-same : {A : Type 0} (a b : A) → good a ≡ good b → a ≡ b
-good-same a b e = cc
 
 pub both-fine : (v w : Verdict) → both v w ≡ Fine → (v ≡ Fine) × (w ≡ Fine)
 both-fine Fine w e = (refl, e)
@@ -68,7 +63,7 @@ fine-if : (t : Bool) (why : Fault) → t ≡ false → refuseIf t why ≡ Fine
 fine-if t why e = rw e
 
 pub value-good : (x : Read) (v : ℕ) → readValue x ≡ good v → x ≡ read.Value v
-value-good (read.Value n) v e = let s : n ≡ v = good-same n v e in ap read.Value s
+value-good (read.Value n) v e = let s : n ≡ v = good-same e in ap read.Value s
 value-good read.Missing v e = let z : _≡_ {A = ℕ} 0 1 = cc in absurd (omega arith)
 value-good read.TooWide v e = let z : _≡_ {A = ℕ} 0 1 = cc in absurd (omega arith)
 
@@ -97,7 +92,7 @@ read-written body (f ∷ fs) at vs e =
     let v = first .0 in
     let rest = read-written body fs (at + widthOf f) (later .0) (later .1) in
     let s = stands body at (widthOf f) v .0 (value-good _ v (first .1)) in
-    subst (λ (l : List ℕ). Fits (f ∷ fs) l × (take (widthOf f + bitCount fs) (drop at (bitsOf body)) ≡ written (f ∷ fs) l)) (good-same _ vs (later .2))
+    subst (λ (l : List ℕ). Fits (f ∷ fs) l × (take (widthOf f + bitCount fs) (drop at (bitsOf body)) ≡ written (f ∷ fs) l)) (good-same (later .2))
     ((s .1, rest .0), next-bits (bitsOf body) at (widthOf f) (bitCount fs) ∙ rw (s .2, rest .1))
 
 pub written-read : (body : List ℕ) (fs : List Field) (at : ℕ) (vs : List ℕ) → All (λ (f : Field). widthOf f ≤ 32) fs → Fits fs vs →
@@ -229,7 +224,7 @@ obeys-if layout body vs e =
     let w = read-written body (fields layout) 0 us (r .1) in
     let end = drop (bitCount (fields layout)) (bitsOf body) in
     let z = stuffing-is end (not-false (stuffing end) (if-fine (not (stuffing end)) fault.Stuffing (s .0))) in
-    subst (Obeys layout body) (good-same us vs (s .1))
+    subst (Obeys layout body) (good-same (s .1))
     (record {
       long = ltb-false _ _ (if-fine _ _ (h .0));
       fits = w .0;

@@ -12,7 +12,8 @@ use Rattle.bits.specs.Bits.{readOn, readAt}
 use Rattle.bits.specs.declared.Read.{Read}
 use Rattle.bits.specs.declared.Read.the-variants.{Value, TooWide}
 use Rattle.layout.specs.Layouts.{widthOf, ruleOf, faultAt}
-use Rattle.layout.specs.Reading.{allows, Result, good, bad, _>>=_, readValue, valuesOf, judge}
+use Rattle.layout.specs.Reader.{allows, Result, readValue, valuesOf, judge}
+use Rattle.answers.specs.Results.{good, bad, _>>=_}
 use Rattle.layout.specs.declared.Field.{Field}
 use Rattle.layout.specs.declared.Fault.the-variants.{Short}
 use Rattle.layout.specs.declared.Verdict.the-variants.{Fine, Faulty}

@@ -3,7 +3,7 @@ use mathlib.Core.Path.{_≡_, refl}
 use mathlib.Core.Bool.{Bool, not, and-true, and-false}
 use borrow.Author.Tests.{eq-eqb, ne-eqb}
 use lib.Dec.{eqb}
-use Rattle.layout.specs.Reading.{both, refuseIf, ownerRules}
+use Rattle.layout.specs.Reader.{both, refuseIf, ownerRules}
 use Rattle.layout.specs.declared.Name.the-variants.{Owner, CopyrightNumber}
 use Rattle.layout.specs.declared.Fault.the-variants.{Value}
 use Rattle.layout.specs.declared.Verdict.{Verdict}

@@ -3,7 +3,7 @@ use Prim.Native.Nat.{ℕ}
 use mathlib.Core.Path.{_≡_, refl, sym, ap, _∙_}
 use mathlib.Core.Bool.{cond}
 use lib.Dec.{eqb}
-use Rattle.bits.specs.Answers.{Outcome, done, refused, SHORT, MARKER, VALUE}
+use Rattle.answers.specs.Answers.{Outcome, done, refused, SHORT, MARKER, VALUE}
 use Rattle.layout.specs.Answers.{reasonNumber, headerSays, Extension, display, copyright, opaque, extensionSays}
 use Rattle.layout.specs.declared.Reason.{Reason}
 use Rattle.layout.specs.declared.Reason.the-variants.{Short, Marker, Value, Stuffing}

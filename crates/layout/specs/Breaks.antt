@@ -12,7 +12,8 @@ use Rattle.bits.specs.declared.Read.the-variants as read
 use Rattle.layout.specs.Layouts.{ruleOf, Allowed, faultAt, fields, bitCount, leastBytes}
 use Rattle.layout.specs.Records.{copyrightRecord}
 use Rattle.layout.specs.Obeys.{Fits, AllAllowed, Crossed, written}
-use Rattle.layout.specs.Answers.{faultNumber, numberOf}
+use Rattle.layout.specs.Answers.{faultNumber}
+use Rattle.layout.specs.Reader.{numberOf}
 use Rattle.layout.specs.declared.Name.the-variants.{Owner, CopyrightNumber}
 use Rattle.layout.specs.declared.Field.{Field}
 use Rattle.layout.specs.declared.Layout.{Layout}

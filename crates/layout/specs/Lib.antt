@@ -2,6 +2,8 @@
 pub mod Layouts
 pub mod Records
 pub mod Obeys
-pub mod Reading
+pub mod Extensions
 pub mod Answers
 pub mod Breaks
+pub mod Reader
+pub mod Inside

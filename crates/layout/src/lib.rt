@@ -11,9 +11,10 @@ ghost use lib.Dec.{leb};
 ghost use Rattle.bits.specs.Bits.{bitsOf};
 ghost use Rattle.layout.specs.Layouts.{headerFields, displayFields, colouredFields, copyrightFields, fields, leastBytes, faultAt};
 ghost use Rattle.layout.specs.Obeys.{Fits};
-ghost use Rattle.layout.specs.Reading.{allows, valuesOf, judge, stuffing, judged, ownerRules, both, ended, bodySays, reading};
+ghost use Rattle.layout.specs.Reader.{allows, valuesOf, judge, stuffing, judged, ownerRules, both, ended, reading, headerOf, isDisplay, displayShort, extensionOf, answerOf, plainOf, colouredOf, displayOf, copyrightOf, byNumber};
+ghost use Rattle.layout.specs.Inside.{bodySays};
 ghost use Rattle.layout.specs.Records.{headerRecord, plainRecord, colouredRecord, copyrightRecord};
-ghost use Rattle.layout.specs.Answers.{reasonNumber, faultNumber, headerSays, headerOf, isDisplay, displayShort, extensionSays, extensionOf, answerOf, plainOf, colouredOf, displayOf, copyrightOf, byNumber};
+ghost use Rattle.layout.specs.Answers.{reasonNumber, faultNumber, headerSays, extensionSays};
 
 // The fields of the layouts. CopyrightNumber is the three parts together.
 pub enum Name {

@@ -12,7 +12,7 @@ use lib.ListN.{length, getD, take, drop, set, length-append, length-set, drop-of
 use lib.Pow.{shl-lt, shl-exact}
 use lib.Seq.{take-suc, take-all, take-suc-set, drop-set-lt, drop-drop, drop-cons, length-take-le, set-split}
 use borrow.Author.Tests.{le-leb, lt-ltb, le-ltb}
-use Rattle.bits.specs.Answers.{done, refused, FULL, TOO-LONG}
+use Rattle.answers.specs.Answers.{done, refused, FULL, TOO-LONG}
 use Rattle.bits.specs.Bits.{bitsIn, packOn, pack}
 use Rattle.bits.proofs.Lists.{by-test, and-false}
 use Rattle.bits.proofs.Laws.{length-in, bit-in}

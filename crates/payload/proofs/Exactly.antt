@@ -6,11 +6,11 @@ use mathlib.Core.Bool.{cond}
 use lib.Dec.{eqb, ltb}
 use lib.IntN.{ℤ}
 use lib.ListN.{length, drop}
-use Rattle.bits.specs.Answers.{Outcome, done, refused, VALUE, FULL, TOO-LONG}
+use Rattle.answers.specs.Answers.{Outcome, done, refused, VALUE, FULL, TOO-LONG}
 use Rattle.bits.specs.Bits.{bitsIn, payload, pack}
 use Rattle.bits.specs.Lists.{All}
-use Rattle.bits.proofs.Lists.{all-append, all-take, by-test, one-to-one}
-use Rattle.bits.proofs.Outcomes.{not-done}
+use Rattle.bits.proofs.Lists.{all-append, all-take, by-test}
+use Rattle.answers.proofs.Outcomes.{not-done, undone}
 use Rattle.bits.proofs.Laws.{Binary, all-in}
 use Rattle.bits.proofs.Main.{unpacked}
 use Rattle.payload.specs.Escape.{kept, copied, unescaped, removal, outputAfter, removedSays}
@@ -61,7 +61,7 @@ removed-undone removed.Full = refl
 removed-undone removed.TooLong = refl
 
 pub removed-says-one : (a b : Removed) → removedSays a ≡ removedSays b → a ≡ b
-removed-says-one = one-to-one removedSays removedOf removed-undone
+removed-says-one = undone removedSays removedOf removed-undone
 
 golombOf : Outcome (Numbered ℕ) → Golomb
 golombOf (done m) = unsigned.Number (m .number) (m .next)
@@ -75,7 +75,7 @@ golomb-undone unsigned.TooLong = refl
 golomb-undone unsigned.PayloadOut = refl
 
 pub golomb-says-one : (a b : Golomb) → golombSays a ≡ golombSays b → a ≡ b
-golomb-says-one = one-to-one golombSays golombOf golomb-undone
+golomb-says-one = undone golombSays golombOf golomb-undone
 
 signedOf : Outcome (Numbered ℤ) → SignedGolomb
 signedOf (done m) = signed.Number (m .number) (m .next)
@@ -89,4 +89,4 @@ signed-undone signed.TooLong = refl
 signed-undone signed.PayloadOut = refl
 
 pub signed-says-one : (a b : SignedGolomb) → signedSays a ≡ signedSays b → a ≡ b
-signed-says-one = one-to-one signedSays signedOf signed-undone
+signed-says-one = undone signedSays signedOf signed-undone

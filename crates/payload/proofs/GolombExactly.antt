@@ -9,13 +9,13 @@ use borrow.Author.Tests.{ne-eqb, leb-true, leb-false, ltb-true, ltb-false}
 use lib.Dec.{leb, ltb}
 use lib.ListN.{length, take, drop, replicate, replicate-append-replicate, take-append-drop, length-drop}
 use lib.Seq.{drop-drop, take-append-seam}
-use Rattle.bits.specs.Answers.{Outcome, done, refused, VALUE, TOO-LONG, PAYLOAD-OUT}
+use Rattle.answers.specs.Answers.{Outcome, done, refused, VALUE, TOO-LONG, PAYLOAD-OUT}
 use Rattle.bits.specs.Bits.{bitsIn, payload, readOn, readAt}
 use Rattle.bits.specs.Lists.{All}
 use Rattle.bits.specs.declared.Read.{Read}
 use Rattle.bits.specs.declared.Read.the-variants as read
 use Rattle.bits.proofs.Lists.{by-test, all-drop}
-use Rattle.bits.proofs.Outcomes.{not-done, done-one, other-number}
+use Rattle.answers.proofs.Outcomes.{not-done, done-one, other-number}
 use Rattle.bits.proofs.Laws.{Binary, all-payload, length-in, read-fits}
 use Rattle.bits.proofs.Main.{read-exactly, missing-exactly}
 use Rattle.payload.specs.Golomb.{Numbered, zerosOn, numberOf, golombAfter, golomb, Coded, TooManyZeros, EndsFirst}

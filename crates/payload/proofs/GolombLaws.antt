@@ -8,12 +8,12 @@ use lib.Dec.{eqb, ltb}
 use lib.ListN.{length, drop, length-drop}
 use lib.Pow.{pow-mono, pow-pos}
 use borrow.Author.Tests.{eq-eqb, ne-eqb, eqb-true, eqb-false, lt-ltb, le-ltb}
-use Rattle.bits.specs.Answers.{Outcome, done, refused, TOO-LONG}
+use Rattle.answers.specs.Answers.{Outcome, done, refused, TOO-LONG}
 use Rattle.bits.specs.Bits.{payload, readAt}
 use Rattle.bits.specs.declared.Read.{Read}
 use Rattle.bits.specs.declared.Read.the-variants as read
 use Rattle.bits.proofs.Lists.{by-test}
-use Rattle.bits.proofs.Outcomes.{not-done}
+use Rattle.answers.proofs.Outcomes.{not-done}
 use Rattle.bits.proofs.Laws.{length-payload}
 use Rattle.bits.proofs.Main.{read-exactly}
 use Rattle.payload.specs.Golomb.{Numbered, zerosOn, numberOf, golombAfter, golomb}

@@ -4,10 +4,10 @@ use mathlib.Core.Path.{_≡_}
 use mathlib.Core.Logic.{_↔_}
 use mathlib.Core.List.{List, []}
 use lib.ListN.{length}
-use Rattle.bits.specs.Answers.{done, refused, VALUE, PAYLOAD-OUT}
+use Rattle.answers.specs.Answers.{done, refused, VALUE, PAYLOAD-OUT}
 use Rattle.bits.specs.Bits.{payload}
 use Rattle.payload.specs.Escape.{unescaped, removal, outputAfter, removedSays}
-use Rattle.payload.specs.Limits.{longestPayload}
+use Rattle.answers.specs.Limits.{longestPayload}
 use Rattle.payload.specs.Golomb.{Numbered, golomb, Coded, TooManyZeros, EndsFirst, golombSays, signedSays}
 use Rattle.payload.specs.declared.Removed.{Removed}
 use Rattle.payload.specs.declared.Golomb.{Golomb}

@@ -4,9 +4,9 @@ use mathlib.Core.List.{List, [], _∷_, _++_}
 use mathlib.Core.Bool.{cond, _&&_}
 use lib.Dec.{eqb, ltb}
 use lib.ListN.{length, take, drop}
-use Rattle.bits.specs.Answers.{Outcome, done, refused, refuseIf, FULL, TOO-LONG}
+use Rattle.answers.specs.Answers.{Outcome, done, refused, refuseIf, FULL, TOO-LONG}
 use Rattle.bits.specs.Bits.{bitsIn, pack}
-use Rattle.payload.specs.Limits.{longestPayload}
+use Rattle.answers.specs.Limits.{longestPayload}
 use Rattle.payload.specs.declared.Removed.{Removed}
 use Rattle.payload.specs.declared.Removed.the-variants as removed
 

@@ -7,11 +7,11 @@ use mathlib.Core.Bool.{cond}
 use lib.Dec.{eqb, leb, ltb}
 use lib.IntN.{ℤ, pos, negℤ}
 use lib.ListN.{length, drop, replicate}
-use Rattle.bits.specs.Answers.{Outcome, done, refused, refuseIf, mapDone, VALUE, TOO-LONG, PAYLOAD-OUT}
+use Rattle.answers.specs.Answers.{Outcome, done, refused, refuseIf, mapDone, VALUE, TOO-LONG, PAYLOAD-OUT}
 use Rattle.bits.specs.Bits.{bitsIn, payload, readAt}
 use Rattle.bits.specs.declared.Read.{Read}
 use Rattle.bits.specs.declared.Read.the-variants as read
-use Rattle.payload.specs.Limits.{longestPayload}
+use Rattle.answers.specs.Limits.{longestPayload}
 use Rattle.payload.specs.declared.Zeros.{Zeros}
 use Rattle.payload.specs.declared.Zeros.the-variants as zeros
 use Rattle.payload.specs.declared.Golomb.{Golomb}

@@ -1,5 +1,4 @@
 -- Document 01, "Escape removal (Annex A)": removal, and Exp-Golomb numbers.
-pub mod Limits
 pub mod Escape
 pub mod Golomb
 pub mod Inside

@@ -7,8 +7,9 @@ use native.Mathlib.Omega.{arith}
 use lib.Dec.{leb, eqb}
 use lib.ListN.{length, drop, length-drop}
 use lib.Seq.{drop-drop}
-use Rattle.bits.specs.Answers.{Outcome, done, refused}
-use Rattle.bits.proofs.Lists.{one-to-one, at-each, beq-true}
+use Rattle.answers.specs.Answers.{Outcome, done, refused}
+use Rattle.answers.proofs.Outcomes.{undone}
+use Rattle.bits.proofs.Lists.{at-each, beq-true}
 use Rattle.startcode.specs.Prefix.{begins, before, nextPrefix, First}
 use Rattle.startcode.specs.Kinds.{kindOf, kindSays}
 use Rattle.startcode.specs.declared.Kind.{Kind}
@@ -43,7 +44,7 @@ kind-undone (Is k) = refl
 kind-undone Unknown = refl
 
 pub kind-says-one : (a b : UnitKind) → kindSays a ≡ kindSays b → a ≡ b
-kind-says-one = one-to-one kindSays unitKindOf kind-undone
+kind-says-one = undone kindSays unitKindOf kind-undone
 
 abbrev pub isUnknown : Outcome Kind → Bool
 isUnknown (done k) = false

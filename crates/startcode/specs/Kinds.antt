@@ -3,7 +3,7 @@ use Prim.Native.Nat.{ℕ}
 use mathlib.Core.List.{List, [], _∷_}
 use mathlib.Core.Bool.{cond, _&&_}
 use lib.Dec.{leb}
-use Rattle.bits.specs.Answers.{Outcome, done, refused, UNKNOWN}
+use Rattle.answers.specs.Answers.{Outcome, done, refused, UNKNOWN}
 use Rattle.startcode.specs.declared.Kind.{Kind}
 use Rattle.startcode.specs.declared.Kind.the-variants.{Slice, SequenceHeader, SequenceEnd, UserData, IPicture, Extension, PBPicture, EditCode}
 use Rattle.startcode.specs.declared.UnitKind.{UnitKind}

@@ -3,7 +3,7 @@ use Prim.Native.Nat.{ℕ}
 use mathlib.Core.Path.{_≡_, sym, ap, _∙_}
 use mathlib.Core.Bool.{true, _&&_}
 use native.Mathlib.Omega.{arith}
-use Rattle.bits.specs.Answers.{Outcome, done}
+use Rattle.answers.specs.Answers.{Outcome, done}
 use Rattle.bits.specs.Bits.{payload}
 use Rattle.aec.specs.Bins.{goodContext, refusedFirst, stepOf, pairOf, updateOf, decodePairOf}
 use Rattle.aec.specs.Says.{checkedSays, steppedSays}

@@ -7,7 +7,7 @@ use native.Mathlib.Omega.{arith}
 use borrow.Author.Tests.{le-leb, lt-leb}
 use lib.Dec.{leb}
 use lib.ListN.{length, drop}
-use Rattle.bits.specs.Answers.{done}
+use Rattle.answers.specs.Answers.{done}
 use Rattle.bits.specs.Bits.{payload}
 use Rattle.bits.proofs.Laws.{all-payload}
 use Rattle.aec.specs.Bins.{doubleOf, shifts, normaliseOf}

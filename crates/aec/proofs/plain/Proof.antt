@@ -1,11 +1,12 @@
 -- A step with p 0, once nothing is refused.
 use mathlib.Core.Path.{_≡_, sym, ap, _∙_}
 use native.Mathlib.Omega.{arith}
-use Rattle.bits.specs.Answers.{done}
+use Rattle.answers.specs.Answers.{done}
 use mathlib.Core.Bool.{true}
 use Rattle.aec.specs.Bins.{refusedFirst}
 use Rattle.aec.specs.Says.{checkedSays}
-use Rattle.aec.proofs.LawsAnswers.{goes, stops}
+use Rattle.aec.proofs.LawsAnswers.{stops}
+use Rattle.answers.proofs.Outcomes.{goes}
 use Rattle.aec.proofs.LawsRanges.{state-ranges}
 use Rattle.aec.proofs.LawsSteps.{first-held, step-is}
 use borrow.Author.Needs.{needs}

@@ -4,13 +4,14 @@ use mathlib.Core.Path.{_≡_, sym, ap, _∙_}
 use mathlib.Core.List.{List}
 use native.Mathlib.Omega.{arith}
 use lib.ListN.{drop}
-use Rattle.bits.specs.Answers.{Outcome, done}
+use Rattle.answers.specs.Answers.{Outcome, done}
 use Rattle.bits.specs.Bits.{payload}
 use Rattle.bits.proofs.Laws.{all-payload}
 use Rattle.aec.specs.Bins.{doubleOf}
 use Rattle.aec.specs.Says.{doubledSays}
 use Rattle.aec.specs.declared.Split.{Split}
-use Rattle.aec.proofs.LawsAnswers.{goes, stops}
+use Rattle.aec.proofs.LawsAnswers.{stops}
+use Rattle.answers.proofs.Outcomes.{goes}
 use Rattle.aec.proofs.LawsShifts.{Taken, taken}
 use Rattle.aec.proofs.LawsSteps.{missed, remainder-even, remainder-past}
 use borrow.Author.Needs.{needs}

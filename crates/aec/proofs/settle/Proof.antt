@@ -1,7 +1,8 @@
 -- The state of a normalised value.
 use mathlib.Core.Path.{sym, ap, _∙_}
 use Rattle.aec.specs.Says.{shiftedSays}
-use Rattle.aec.proofs.LawsAnswers.{goes, stops}
+use Rattle.aec.proofs.LawsAnswers.{stops}
+use Rattle.answers.proofs.Outcomes.{goes}
 use borrow.Author.Needs.{needs}
 use Rattle.aec.proofs.settle.Statement.{statement}
 use Rattle.aec.proofs.settle.Tie as tie

@@ -3,7 +3,8 @@ use mathlib.Core.Path.{sym, ap, _∙_}
 use native.Mathlib.Omega.{arith}
 use Rattle.aec.specs.Bins.{wanted, startOf}
 use Rattle.aec.specs.declared.Refusal.the-variants.{PayloadOut}
-use Rattle.aec.proofs.LawsAnswers.{goes, stops}
+use Rattle.aec.proofs.LawsAnswers.{stops}
+use Rattle.answers.proofs.Outcomes.{goes}
 use Rattle.aec.proofs.LawsSteps.{limit-passed, limit-kept, nine-bits}
 use borrow.Author.Needs.{needs}
 use Rattle.aec.proofs.start.Statement.{statement}

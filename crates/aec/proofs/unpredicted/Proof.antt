@@ -5,7 +5,7 @@ use mathlib.Core.List.{List}
 use native.Mathlib.Omega.{arith}
 use Prim.Native.Nat.{ℕ}
 use lib.ListN.{length}
-use Rattle.bits.specs.Answers.{Outcome, done}
+use Rattle.answers.specs.Answers.{Outcome, done}
 use Rattle.bits.specs.Bits.{payload}
 use Rattle.bits.proofs.Laws.{all-payload}
 use Rattle.aec.specs.Bins.{remainderOf, widenOf, settleOf, unpredictedOf}

@@ -1,8 +1,9 @@
 -- The number of what was read, or the refusal.
 use mathlib.Core.Path.{_≡_, sym, ap, _∙_}
 use borrow.Author.Needs.{needs}
-use Rattle.bits.specs.Answers.{mapDone}
-use Rattle.layout.specs.Answers.{extensionSays, extensionOf}
+use Rattle.answers.specs.Answers.{mapDone}
+use Rattle.layout.specs.Answers.{extensionSays}
+use Rattle.layout.specs.Reader.{extensionOf}
 use Rattle.avsplus.specs.Numbers.{placeFor, numberOf}
 use Rattle.avsplus.proofs.Laws.{handed-by, handed-for, handed-refused}
 use Rattle.avsplus.proofs.avsplus_extension.Statement.{statement}

@@ -1,7 +1,7 @@
 -- The entry of the table, or nothing.
 use mathlib.Core.Path.{ap}
 use borrow.Author.Needs.{needs}
-use Rattle.bits.specs.Answers.{done}
+use Rattle.answers.specs.Answers.{done}
 use Rattle.avsplus.specs.Numbers.{ratioNumbers}
 use Rattle.avsplus.proofs.Laws.{handed-by}
 use Rattle.avsplus.proofs.avsplus_frame_rate.Statement.{statement}

@@ -1,7 +1,7 @@
 -- The group's display extension, or nothing, NO ROW, or the stream's refusal.
 use mathlib.Core.Path.{sym, ap, _∙_}
 use borrow.Author.Needs.{needs}
-use Rattle.bits.specs.Answers.{mapDone}
+use Rattle.answers.specs.Answers.{mapDone}
 use Rattle.groups.specs.Groups.{groupSays}
 use Rattle.avsplus.specs.Numbers.{groupDisplay}
 use Rattle.avsplus.proofs.Laws.{handed-by, handed-for, handed-refused}

@@ -1,7 +1,7 @@
 -- The header record as numbers, or the refusal.
 use mathlib.Core.Path.{sym, ap, _∙_}
 use borrow.Author.Needs.{needs}
-use Rattle.bits.specs.Answers.{mapDone}
+use Rattle.answers.specs.Answers.{mapDone}
 use Rattle.layout.specs.Answers.{headerSays}
 use Rattle.avsplus.specs.Numbers.{headerNumbers}
 use Rattle.avsplus.proofs.Laws.{handed-by, handed-for, handed-refused}

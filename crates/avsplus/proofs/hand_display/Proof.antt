@@ -2,7 +2,7 @@
 use mathlib.Core.Path.{ap}
 use mathlib.Core.List.{[], _∷_}
 use borrow.Author.Needs.{needs}
-use Rattle.bits.specs.Answers.{done}
+use Rattle.answers.specs.Answers.{done}
 use Rattle.avsplus.specs.Numbers.{displayNumbers}
 use Rattle.avsplus.proofs.Laws.{handed-by}
 use Rattle.avsplus.proofs.hand_display.Statement.{statement}

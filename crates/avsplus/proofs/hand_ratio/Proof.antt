@@ -2,7 +2,7 @@
 use mathlib.Core.Path.{sym, ap, _∙_}
 use mathlib.Core.List.{[], _∷_}
 use borrow.Author.Needs.{needs}
-use Rattle.bits.specs.Answers.{done}
+use Rattle.answers.specs.Answers.{done}
 use Rattle.avsplus.specs.Numbers.{ratioNumbers}
 use Rattle.avsplus.proofs.Laws.{handed-by, handed-for, handed-none}
 use Rattle.avsplus.proofs.hand_ratio.Statement.{statement}

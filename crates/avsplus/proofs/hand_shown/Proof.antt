@@ -1,7 +1,7 @@
 -- The display extension, or nothing where it is not given.
 use mathlib.Core.Path.{sym, ap}
 use borrow.Author.Needs.{needs}
-use Rattle.bits.specs.Answers.{done}
+use Rattle.answers.specs.Answers.{done}
 use Rattle.avsplus.specs.Numbers.{shownNumbers}
 use Rattle.avsplus.proofs.Laws.{handed-by, handed-for, handed-none}
 use Rattle.avsplus.proofs.hand_shown.Statement.{statement}

@@ -1,7 +1,7 @@
 -- The colour, or nothing where there is none.
 use mathlib.Core.Path.{sym, ap}
 use borrow.Author.Needs.{needs}
-use Rattle.bits.specs.Answers.{done}
+use Rattle.answers.specs.Answers.{done}
 use Rattle.avsplus.specs.Numbers.{shownColour}
 use Rattle.avsplus.proofs.Laws.{handed-by, handed-for, handed-none}
 use Rattle.avsplus.proofs.hand_shown_colour.Statement.{statement}

@@ -3,7 +3,7 @@ use Prim.Native.Nat.{ℕ}
 use mathlib.Core.Path.{ap}
 use mathlib.Core.List.{[]}
 use borrow.Author.Needs.{needs}
-use Rattle.bits.specs.Answers.{refused}
+use Rattle.answers.specs.Answers.{refused}
 use Rattle.avsplus.specs.Answers.{counted}
 use Rattle.avsplus.proofs.refused_body.Statement.{statement}
 use Rattle.avsplus.proofs.refused_body.Tie as tie

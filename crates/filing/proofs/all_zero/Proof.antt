@@ -4,7 +4,7 @@ use mathlib.Core.Path.{_≡_, refl, sym, ap, _∙_}
 use native.Mathlib.Omega.{arith}
 use borrow.Author.Needs.{needs}
 use lib.ListN.{length, drop}
-use Rattle.layout.specs.Reading.{allZero}
+use Rattle.layout.specs.Reader.{allZero}
 use Rattle.layout.proofs.EndLaws.{zero-end, zero-more, zero-not}
 use Rattle.filing.proofs.all_zero.Statement.{statement}
 use Rattle.filing.proofs.all_zero.Tie as tie

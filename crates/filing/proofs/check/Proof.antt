@@ -2,7 +2,7 @@
 use mathlib.Core.Path.{_≡_, sym, ap, _∙_}
 use borrow.Author.Needs.{needs}
 use lib.ListN.{length}
-use Rattle.bits.specs.Answers.{mapDone}
+use Rattle.answers.specs.Answers.{mapDone}
 use Rattle.filing.proofs.Demand.{filing-long, filing-short}
 use Rattle.filing.proofs.check.Statement.{statement}
 use Rattle.filing.proofs.check.Tie as tie

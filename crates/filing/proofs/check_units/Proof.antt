@@ -7,7 +7,7 @@ use native.Mathlib.Omega.{arith}
 use borrow.Author.Needs.{needs}
 use borrow.Author.Tests.{not-true, not-false}
 use lib.ListN.{length, drop}
-use Rattle.bits.specs.Answers.{Outcome, done, refused, mapDone}
+use Rattle.answers.specs.Answers.{Outcome, done, refused, mapDone}
 use Rattle.startcode.specs.Prefix.{begins}
 use Rattle.grammar.specs.Reader.{filingOfAny}
 use Rattle.grammar.specs.declared.State.{State}

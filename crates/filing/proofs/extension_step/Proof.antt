@@ -3,7 +3,8 @@ use Prim.Native.Nat.{ℕ}
 use mathlib.Core.Path.{_≡_, refl, sym, ap, _∙_}
 use mathlib.Core.List.{List}
 use borrow.Author.Needs.{needs}
-use Rattle.layout.specs.Answers.{extensionSays, extensionOf, extensionResult}
+use Rattle.layout.specs.Answers.{extensionSays}
+use Rattle.layout.specs.Reader.{extensionOf, extensionResult}
 use Rattle.layout.specs.declared.ExtensionAnswer.{ExtensionAnswer}
 use Rattle.grammar.specs.Reader.{Step, go, stop, by}
 use Rattle.filing.proofs.Laws.{asStep, by-answer}

@@ -5,7 +5,7 @@ use mathlib.Core.List.{List, [], _∷_}
 use native.Mathlib.Omega.{arith}
 use borrow.Author.Needs.{needs}
 use lib.ListN.{length}
-use Rattle.bits.specs.Answers.{Outcome, done, refused, mapDone}
+use Rattle.answers.specs.Answers.{Outcome, done, refused, mapDone}
 use Rattle.grammar.specs.Rows.{Row}
 use Rattle.grammar.specs.Reader.{filing}
 use Rattle.filing.specs.Filing.{totals, wordsAfter, checkedSays}

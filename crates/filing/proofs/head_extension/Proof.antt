@@ -5,7 +5,7 @@ use mathlib.Core.List.{List}
 use mathlib.Core.Bool.{true, false}
 use borrow.Author.Needs.{needs}
 use borrow.Author.Tests.{not-true, not-false}
-use Rattle.layout.specs.Answers.{isDisplay, displayShort, extensionResult, displayOf}
+use Rattle.layout.specs.Reader.{isDisplay, displayShort, extensionResult, displayOf}
 use Rattle.grammar.specs.Reader.{by}
 use Rattle.grammar.specs.declared.State.the-variants.{Head}
 use Rattle.filing.proofs.Laws.{head-display}

@@ -4,7 +4,8 @@ use mathlib.Core.Path.{_≡_, refl, sym, ap, _∙_}
 use mathlib.Core.List.{List}
 use mathlib.Core.Bool.{false}
 use borrow.Author.Needs.{needs}
-use Rattle.layout.specs.Answers.{headerSays, headerOf, headerResult}
+use Rattle.layout.specs.Answers.{headerSays}
+use Rattle.layout.specs.Reader.{headerOf, headerResult}
 use Rattle.layout.specs.declared.HeaderAnswer.{HeaderAnswer}
 use Rattle.layout.specs.declared.SequenceHeader.{SequenceHeader}
 use Rattle.macroblocks.specs.Macroblocks.{slicesTested, macroblockRows}

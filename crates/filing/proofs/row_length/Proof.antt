@@ -2,7 +2,8 @@
 use mathlib.Core.Path.{_≡_, refl, sym, ap, _∙_}
 use borrow.Author.Needs.{needs}
 use borrow.Author.Tests.{eq-eqb, ne-eqb, lt-ltb, le-ltb}
-use Rattle.layout.specs.Answers.{extensionSays, extensionOf}
+use Rattle.layout.specs.Answers.{extensionSays}
+use Rattle.layout.specs.Reader.{extensionOf}
 use Rattle.grammar.specs.Rows.{rowLength}
 use Rattle.filing.proofs.row_length.Statement.{statement}
 use Rattle.filing.proofs.row_length.Tie as tie

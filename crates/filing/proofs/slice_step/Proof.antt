@@ -5,7 +5,7 @@ use mathlib.Core.Bool.{true, false}
 use native.Mathlib.Omega.{arith}
 use borrow.Author.Needs.{needs}
 use borrow.Author.Tests.{not-true, not-false}
-use Rattle.layout.specs.Reading.{allZero}
+use Rattle.layout.specs.Reader.{allZero}
 use Rattle.filing.proofs.Laws.{slice-free, slice-order, slice-row, slice-go}
 use Rattle.filing.proofs.slice_step.Statement.{statement}
 use Rattle.filing.proofs.slice_step.Tie as tie

@@ -7,7 +7,7 @@ use native.Mathlib.Omega.{arith}
 use borrow.Author.Needs.{needs}
 use borrow.Author.Tests.{not-true, not-false}
 use lib.ListN.{length, getD, take, drop}
-use Rattle.bits.specs.Answers.{Outcome, done}
+use Rattle.answers.specs.Answers.{Outcome, done}
 use Rattle.startcode.specs.Prefix.{begins, nextPrefix}
 use Rattle.layout.specs.declared.Place.{Place}
 use Rattle.grammar.specs.Grammar.{StreamUnit}

@@ -5,9 +5,9 @@ use mathlib.Core.List.{List, [], _∷_}
 use native.Mathlib.Omega.{arith}
 use borrow.Author.Needs.{needs}
 use lib.ListN.{length, getD, drop}
-use Rattle.bits.specs.Answers.{Outcome, done, refused}
-use Rattle.bits.proofs.Outcomes.{not-done}
-use Rattle.grammar.specs.Reader.{longestStream}
+use Rattle.answers.specs.Answers.{Outcome, done, refused}
+use Rattle.answers.proofs.Outcomes.{not-done}
+use Rattle.answers.specs.Limits.{longestStream}
 use Rattle.grammar.specs.declared.State.{State}
 use Rattle.filing.specs.Units.{Next, unitSays, unitAt}
 use Rattle.filing.specs.declared.UnitAnswer.the-variants.{Refused}

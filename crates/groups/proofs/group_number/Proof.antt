@@ -5,7 +5,7 @@ use mathlib.Core.List.{List, []}
 use native.Mathlib.Omega.{arith}
 use borrow.Author.Needs.{needs}
 use lib.ListN.{length}
-use Rattle.bits.specs.Answers.{Outcome, done}
+use Rattle.answers.specs.Answers.{Outcome, done}
 use Rattle.groups.specs.Groups.{GroupRecord, addGroup, displayIn, groupsIn, groupNumber}
 use Rattle.groups.specs.Inside.{unitsFrom}
 use Rattle.groups.specs.declared.Begins.{Begins}

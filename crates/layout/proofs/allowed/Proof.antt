@@ -3,7 +3,7 @@ use Prim.Native.Nat.{ℕ}
 use mathlib.Core.Path.{_≡_, sym, ap, _∙_}
 use mathlib.Core.Bool.{Bool, _&&_, not}
 use lib.Dec.{eqb}
-use Rattle.layout.specs.Reading.{allows}
+use Rattle.layout.specs.Reader.{allows}
 use Rattle.layout.specs.declared.Values.{Values}
 use borrow.Author.Needs.{needs}
 use Rattle.layout.proofs.allowed.Statement.{statement}

@@ -4,8 +4,9 @@ use native.Mathlib.Omega.{arith}
 use lib.ListN.{length, take, length-take}
 use Rattle.layout.specs.Layouts.{fields}
 use Rattle.layout.specs.Records.{copyrightRecord}
-use Rattle.layout.specs.Reading.{Result, good, _>>=_}
-use Rattle.layout.specs.Answers.{answerOf, extensionSays, copyright, copyrightOf}
+use Rattle.layout.specs.Reader.{Result, answerOf, copyrightOf}
+use Rattle.answers.specs.Results.{good, _>>=_}
+use Rattle.layout.specs.Answers.{extensionSays, copyright}
 use Rattle.layout.specs.declared.CopyrightExtension.{CopyrightExtension}
 use Rattle.layout.specs.declared.Layout.the-variants.{Copyright}
 use Rattle.layout.proofs.AnswerLaws.{held, held-length, record-refused, record-made, refused-by}

@@ -6,8 +6,9 @@ use lib.Dec.{eqb}
 use borrow.Author.Tests.{eq-eqb, ne-eqb}
 use Rattle.bits.specs.Bits.{bitsOf}
 use Rattle.bits.specs.declared.Bit.{Bit}
-use Rattle.layout.specs.Reading.{_>>=_}
-use Rattle.layout.specs.Answers.{answerOf, faultNumber, reasonNumber, extensionSays, colouredOf, plainOf, readBit, displayOf}
+use Rattle.answers.specs.Results.{_>>=_}
+use Rattle.layout.specs.Answers.{faultNumber, reasonNumber, extensionSays}
+use Rattle.layout.specs.Reader.{answerOf, colouredOf, plainOf, readBit, displayOf}
 use Rattle.layout.proofs.AnswerLaws.{bit-within, display-short, display-long}
 use borrow.Author.Needs.{needs}
 use Rattle.layout.proofs.display.Statement.{statement}

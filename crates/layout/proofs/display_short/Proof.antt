@@ -7,7 +7,7 @@ use lib.Dec.{ltb}
 use lib.ListN.{length}
 use Rattle.bits.specs.Bits.{bitsOf, bitAt}
 use Rattle.layout.specs.Layouts.{leastBytes}
-use Rattle.layout.specs.Answers.{isOne, displayShort}
+use Rattle.layout.specs.Reader.{isOne, displayShort}
 use Rattle.layout.proofs.AnswerLaws.{bit-within, short-by}
 use borrow.Author.Needs.{needs}
 use Rattle.layout.proofs.display_short.Statement.{statement}

@@ -2,8 +2,9 @@
 use mathlib.Core.Path.{_≡_, sym, ap, _∙_}
 use Rattle.bits.specs.Bits.{bitsOf}
 use Rattle.bits.specs.declared.Read.{Read}
-use Rattle.layout.specs.Reading.{_>>=_, readValue}
-use Rattle.layout.specs.Answers.{answerOf, faultNumber, reasonNumber, extensionSays, byNumber, extensionResult, extensionOf}
+use Rattle.layout.specs.Reader.{readValue, answerOf, byNumber, extensionResult, extensionOf}
+use Rattle.answers.specs.Results.{_>>=_}
+use Rattle.layout.specs.Answers.{faultNumber, reasonNumber, extensionSays}
 use Rattle.layout.proofs.ReadingLaws.{read-inside}
 use borrow.Author.Needs.{needs}
 use Rattle.layout.proofs.extension.Statement.{statement}

@@ -1,7 +1,7 @@
 -- The number is the one that the first four bits write.
 use mathlib.Core.Path.{_≡_, sym, ap, _∙_}
 use Rattle.bits.specs.Bits.{bitsOf}
-use Rattle.layout.specs.Answers.{numberOf, isTwo, isDisplay}
+use Rattle.layout.specs.Reader.{numberOf, isTwo, isDisplay}
 use Rattle.layout.proofs.ReadingLaws.{read-inside}
 use borrow.Author.Needs.{needs}
 use Rattle.layout.proofs.is_display.Statement.{statement}

@@ -5,7 +5,7 @@ use native.Mathlib.Omega.{arith}
 use borrow.Author.Tests.{eq-eqb, ne-eqb}
 use lib.ListN.{length, drop}
 use Rattle.bits.specs.Bits.{bitsOf}
-use Rattle.layout.specs.Reading.{allZero, stuffing}
+use Rattle.layout.specs.Reader.{allZero, stuffing}
 use Rattle.layout.proofs.EndLaws.{stuffed-at, zero-end, zero-more, zero-not}
 use borrow.Author.Needs.{needs}
 use Rattle.layout.proofs.is_stuffed.Statement.{statement}

@@ -3,7 +3,7 @@ use Prim.Native.Nat.{_-_}
 use mathlib.Core.Path.{_≡_, sym, ap, _∙_}
 use mathlib.Core.Bool.{true, false}
 use native.Mathlib.Omega.{arith}
-use Rattle.layout.specs.Reading.{both, judged, ended}
+use Rattle.layout.specs.Reader.{both, judged, ended}
 use Rattle.layout.specs.declared.Verdict.{Verdict}
 use Rattle.layout.proofs.LayoutLaws.{table}
 use Rattle.layout.proofs.JudgeLaws.{ended-by}

@@ -6,7 +6,7 @@ use native.Mathlib.Omega.{arith}
 use borrow.Author.Tests.{not-true, not-false}
 use lib.ListN.{length, getD, drop, drop-of-length-le}
 use Rattle.layout.specs.Layouts.{fields, bitCount}
-use Rattle.layout.specs.Reading.{judge}
+use Rattle.layout.specs.Reader.{judge}
 use Rattle.layout.specs.declared.Field.{Field}
 use Rattle.layout.specs.declared.Verdict.the-variants.{Faulty}
 use Rattle.layout.proofs.LayoutLaws.{table, heads-rest, rest-count, fits-length}

@@ -2,7 +2,7 @@
 use mathlib.Core.Path.{_≡_, sym, ap, _∙_, subst}
 use Rattle.layout.specs.Layouts.{fields}
 use Rattle.layout.specs.Obeys.{Fits}
-use Rattle.layout.specs.Reading.{both, cross, judged}
+use Rattle.layout.specs.Reader.{both, cross, judged}
 use Rattle.layout.specs.declared.Layout.{Layout}
 use Rattle.layout.specs.declared.Layout.the-variants.{Copyright}
 use Rattle.layout.specs.declared.Verdict.{Verdict}

@@ -4,8 +4,9 @@ use mathlib.Core.Path.{_≡_, sym, ap, _∙_}
 use mathlib.Core.Bool.{Bool, cond}
 use mathlib.Core.List.{List}
 use borrow.Author.Tests.{eq-eqb, ne-eqb}
-use Rattle.layout.specs.Reading.{good}
-use Rattle.layout.specs.Answers.{answerOf, extensionSays, opaque, displayOf, copyrightOf, notCopyright, byNumber}
+use Rattle.answers.specs.Results.{good}
+use Rattle.layout.specs.Answers.{extensionSays, opaque}
+use Rattle.layout.specs.Reader.{answerOf, displayOf, copyrightOf, notCopyright, byNumber}
 use Rattle.layout.specs.declared.Place.{Place}
 use borrow.Author.Needs.{needs}
 use Rattle.layout.proofs.numbered.Statement.{statement}

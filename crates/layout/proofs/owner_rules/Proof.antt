@@ -1,7 +1,7 @@
 -- Owner 0 leaves the second rule alone, and any other owner the first.
 use mathlib.Core.Path.{sym}
 use borrow.Author.Tests.{eq-eqb, ne-eqb}
-use Rattle.layout.specs.Reading.{ownerRules}
+use Rattle.layout.specs.Reader.{ownerRules}
 use Rattle.layout.proofs.RecordLaws.{unowned-rules, owned-rules}
 use Rattle.layout.proofs.owner_rules.Statement.{statement}
 use Rattle.layout.proofs.owner_rules.Tie as tie

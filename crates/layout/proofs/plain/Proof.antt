@@ -4,8 +4,9 @@ use native.Mathlib.Omega.{arith}
 use lib.ListN.{length, take, length-take}
 use Rattle.layout.specs.Layouts.{fields}
 use Rattle.layout.specs.Records.{plainRecord}
-use Rattle.layout.specs.Reading.{Result, good, _>>=_}
-use Rattle.layout.specs.Answers.{answerOf, extensionSays, display, plainOf}
+use Rattle.layout.specs.Reader.{Result, answerOf, plainOf}
+use Rattle.answers.specs.Results.{good, _>>=_}
+use Rattle.layout.specs.Answers.{extensionSays, display}
 use Rattle.layout.specs.declared.DisplayExtension.{DisplayExtension}
 use Rattle.layout.specs.declared.Layout.the-variants.{Display}
 use Rattle.layout.proofs.AnswerLaws.{held-length, record-refused, record-made, refused-by}

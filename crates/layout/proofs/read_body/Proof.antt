@@ -7,7 +7,9 @@ use lib.ListN.{length, take, length-take}
 use Rattle.bits.specs.Bits.{bitsOf}
 use Rattle.layout.specs.Layouts.{fields, leastBytes}
 use Rattle.layout.specs.Obeys.{Fits}
-use Rattle.layout.specs.Reading.{good, valuesOf, judged, ended, both, verdictSays}
+use Rattle.layout.specs.Reader.{valuesOf, judged, ended, both}
+use Rattle.answers.specs.Results.{good}
+use Rattle.layout.specs.Inside.{verdictSays}
 use Rattle.layout.specs.declared.Layout.{Layout}
 use Rattle.layout.specs.declared.Verdict.{Verdict}
 use Rattle.layout.proofs.LayoutLaws.{fits-length}

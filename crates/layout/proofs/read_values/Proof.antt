@@ -6,7 +6,7 @@ use native.Mathlib.Omega.{arith}
 use lib.ListN.{length, take, drop, set, length-set, drop-of-length-le}
 use Rattle.bits.specs.Bits.{bitsOf, payload, readAt}
 use Rattle.layout.specs.Layouts.{widthOf, fields, bitCount}
-use Rattle.layout.specs.Reading.{valuesOf}
+use Rattle.layout.specs.Reader.{valuesOf}
 use Rattle.layout.specs.declared.Field.{Field}
 use Rattle.layout.proofs.LayoutLaws.{table, rest-count}
 use Rattle.layout.proofs.ReadingLaws.{read-inside, onto, onto-none, values-step, values-fail, values-end}

@@ -6,7 +6,8 @@ use lib.Seq.{take-all}
 use Rattle.layout.specs.Layouts.{headerFields, fields}
 use Rattle.layout.specs.Obeys.{Fits}
 use Rattle.layout.specs.Records.{headerRecord}
-use Rattle.layout.specs.Answers.{answerOf, headerSays, headerOf}
+use Rattle.layout.specs.Answers.{headerSays}
+use Rattle.layout.specs.Reader.{answerOf, headerOf}
 use Rattle.layout.specs.declared.Layout.the-variants.{Header}
 use Rattle.layout.proofs.AnswerLaws.{held, record-refused, record-made, refused-by}
 use borrow.Author.Needs.{needs}

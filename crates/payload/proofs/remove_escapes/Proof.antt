@@ -5,7 +5,7 @@ use mathlib.Core.List.{List}
 use native.Mathlib.Omega.{arith}
 use borrow.Author.Needs.{needs}
 use lib.ListN.{length}
-use Rattle.bits.specs.Answers.{Outcome, done}
+use Rattle.answers.specs.Answers.{Outcome, done}
 use Rattle.payload.specs.Escape.{outputAfter, removal}
 use Rattle.payload.proofs.EscapeLaws.{removal-long, removal-full, removal-done, output-made}
 use Rattle.payload.proofs.remove_escapes.Statement.{statement}

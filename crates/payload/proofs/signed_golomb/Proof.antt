@@ -6,7 +6,7 @@ use borrow.Author.Needs.{needs}
 use lib.IntN.{ℤ}
 use mir.Facts.{toZ-ofZ}
 use mir.Syntax.{w32}
-use Rattle.bits.specs.Answers.{Outcome, done, mapDone}
+use Rattle.answers.specs.Answers.{Outcome, done, mapDone}
 use Rattle.payload.specs.Golomb.{Numbered, golomb, golombSays, withSign, signedGolomb}
 use Rattle.payload.proofs.GolombLaws.{golomb-bound}
 use Rattle.payload.proofs.signed_golomb.Statement.{statement}

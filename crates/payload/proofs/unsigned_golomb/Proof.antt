@@ -6,7 +6,7 @@ use native.Mathlib.Nat.{one-mul}
 use borrow.Author.Needs.{needs}
 use lib.Pow.{shl-exact, pow-pos}
 use lib.ListN.{length}
-use Rattle.bits.specs.Answers.{Outcome, done}
+use Rattle.answers.specs.Answers.{Outcome, done}
 use Rattle.bits.specs.Bits.{payload}
 use Rattle.payload.specs.Golomb.{golombAfter, golomb, numberOf, Numbered}
 use Rattle.payload.proofs.GolombLaws.{golomb-long, golomb-after, zeros-bounds, number-lt}

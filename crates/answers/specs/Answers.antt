@@ -1,5 +1,6 @@
 -- Document 01, "Refusal numbers": what an answer is, and the number of each refusal.
 use Prim.Native.Nat.{ℕ}
+use mathlib.Core.Path.{_≡_}
 use mathlib.Core.List.{List, []}
 use mathlib.Core.Bool.{Bool, cond}
 
@@ -16,6 +17,15 @@ refuseIf test number rest = cond test (refused number []) rest
 abbrev pub mapDone : {A B : Type 0} → (A → B) → Outcome A → Outcome B
 mapDone f (done a) = done (f a)
 mapDone f (refused number carried) = refused number carried
+
+-- one step after another: a value goes on to the next step, a refusal stands
+abbrev pub andThen : {A B : Type 0} → Outcome A → (A → Outcome B) → Outcome B
+andThen (done value) next = next value
+andThen (refused number carried) next = refused number carried
+
+-- no two answers say the same
+abbrev pub OneToOne : {A B : Type 0} → (A → B) → Type 0
+OneToOne {A} says = (a b : A) → says a ≡ says b → a ≡ b
 
 abbrev pub NO-CODE : ℕ
 NO-CODE = 1

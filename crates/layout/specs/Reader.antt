@@ -1,16 +1,21 @@
--- Document 01, "Refusal numbers": reading a body by its layout. SHORT, then the fields in bit order, then the rules across
--- fields, then STUFFING.
+-- Reading a body by its layout, as a computation: SHORT, then the fields in bit order, then the rules across fields, then STUFFING.
 use Prim.Native.Nat.{ℕ, _+_}
 use mathlib.Core.List.{List, [], _∷_}
-use mathlib.Core.Bool.{Bool, true, false, cond, _&&_, not}
+use mathlib.Core.Bool.{Bool, true, false, cond, _&&_, _||_, not}
 use mathlib.Core.Option.{Option, none, some}
-use lib.ListN.{length, take, drop}
+use lib.ListN.{length, drop}
 use lib.Dec.{eqb, leb, ltb}
-use Rattle.bits.specs.Bits.{bitsOf, readAt}
+use Rattle.answers.specs.Answers.{Outcome, done, refused}
+use Rattle.answers.specs.Results as results
+use Rattle.answers.specs.Results.{good, bad, _>>=_}
+use Rattle.bits.specs.Bits.{bitsOf, bitAt, readAt}
+use Rattle.bits.specs.declared.Bit.{Bit}
+use Rattle.bits.specs.declared.Bit.the-variants as bit
 use Rattle.bits.specs.declared.Read.{Read}
 use Rattle.bits.specs.declared.Read.the-variants as read
 use Rattle.layout.specs.Layouts.{widthOf, ruleOf, faultAt, fields, bitCount, leastBytes}
-use Rattle.layout.specs.Records.{copyrightRecord}
+use Rattle.layout.specs.Records.{headerRecord, plainRecord, colouredRecord, copyrightRecord}
+use Rattle.layout.specs.Answers.{faultNumber, Extension, display, copyright, opaque}
 use Rattle.layout.specs.declared.Name.the-variants.{Owner, CopyrightNumber}
 use Rattle.layout.specs.declared.Values.{Values}
 use Rattle.layout.specs.declared.Values.the-variants as rule
@@ -21,20 +26,16 @@ use Rattle.layout.specs.declared.Fault.{Fault}
 use Rattle.layout.specs.declared.Fault.the-variants.{Short, Value, Stuffing}
 use Rattle.layout.specs.declared.Verdict.{Verdict}
 use Rattle.layout.specs.declared.Verdict.the-variants.{Fine, Faulty}
-use Rattle.layout.specs.declared.Body.{Body}
+use Rattle.layout.specs.declared.SequenceHeader.{SequenceHeader}
 use Rattle.layout.specs.declared.CopyrightExtension.{CopyrightExtension}
+use Rattle.layout.specs.declared.Place.{Place}
+use Rattle.layout.specs.declared.Place.the-variants as place
 
-infixl 10 _>>=_ _>>_
+infixl 10 _>>_
 -- ── results: what was read, or what is wrong ──
 
-pub data Result (A : Type 0) : Type 0 where
-  good : A → Result A
-  bad : Fault → Result A
-
--- `x ← e` goes on with what e read
-abbrev pub _>>=_ : {A B : Type 0} → Result A → (A → Result B) → Result B
-_>>=_ (good a) rest = rest a
-_>>=_ (bad fault) rest = bad fault
+abbrev pub Result : Type 0 → Type 0
+Result A = results.Result Fault A
 
 -- a verdict on a line of its own: what follows stands where it is Fine
 abbrev pub _>>_ : {A : Type 0} → Verdict → Result A → Result A
@@ -137,11 +138,96 @@ reading layout body = do
   ended layout body
   good vs
 
--- ── what the code's Body says ──
+-- the record that a body's values make, or what is wrong
+unfoldable pub recordOf : {A : Type 0} → Layout → (List ℕ → Option A) → List ℕ → Result A
+recordOf layout make body = do
+  vs ← reading layout body
+  recorded (make vs)
 
-abbrev pub verdictSays : Verdict → List ℕ → Result (List ℕ)
-verdictSays Fine vs = good vs
-verdictSays (Faulty fault) vs = bad fault
+-- a result in document 01's terms
+unfoldable pub answerOf : {A : Type 0} → Result A → Outcome A
+answerOf (good a) = done a
+answerOf (bad fault) = refused (faultNumber fault) []
 
-abbrev pub bodySays : Layout → Body → Result (List ℕ)
-bodySays layout body = verdictSays (body .verdict) (take (length (fields layout)) (body .values))
+-- ── sequence header ──
+
+abbrev pub headerResult : List ℕ → Result SequenceHeader
+headerResult body = recordOf Header headerRecord body
+
+-- what reading a sequence header's body answers
+unfoldable pub headerOf : List ℕ → Outcome SequenceHeader
+headerOf body = answerOf (headerResult body)
+
+-- ── extensions ──
+
+-- a display extension where colour is not given
+unfoldable pub plainOf : List ℕ → Result Extension
+plainOf body = do
+  d ← recordOf Display plainRecord body
+  good (display d)
+
+-- a display extension where colour is given
+unfoldable pub colouredOf : List ℕ → Result Extension
+colouredOf body = do
+  d ← recordOf Coloured colouredRecord body
+  good (display d)
+
+-- a copyright extension
+unfoldable pub copyrightOf : List ℕ → Result Extension
+copyrightOf body = do
+  c ← recordOf Copyright copyrightRecord body
+  good (copyright c)
+
+-- a bit that is there and is 1
+abbrev pub isOne : Bit → Bool
+isOne (bit.Is b) = eqb b 1
+isOne bit.Missing = false
+
+-- a bit that is not there is SHORT
+abbrev pub readBit : Bit → Result ℕ
+readBit (bit.Is b) = good b
+readBit bit.Missing = bad Short
+
+-- SHORT of a display extension: fewer than 6 bytes, or fewer than 9 with colour given, which is bit 8
+unfoldable pub displayShort : List ℕ → Bool
+displayShort body = short Display body || (isOne (bitAt (bitsOf body) 8) && short Coloured body)
+
+-- a display extension: SHORT, then the layout that colour given says
+unfoldable pub displayOf : List ℕ → Result Extension
+displayOf body = do
+  refuseIf (displayShort body) Short
+  colour ← readBit (bitAt (bitsOf body) 8)
+  cond (eqb colour 1) (colouredOf body) (plainOf body)
+
+-- An extension's number is its body's first four bits.
+abbrev pub numberOf : List ℕ → Read
+numberOf body = readAt (bitsOf body) 0 4
+
+-- a number that is there and is 2
+abbrev pub isTwo : Read → Bool
+isTwo (read.Value number) = eqb number 2
+isTwo read.Missing = false
+isTwo read.TooWide = false
+
+-- number 2: in a group's head, a display extension
+unfoldable pub isDisplay : List ℕ → Bool
+isDisplay body = isTwo (numberOf body)
+
+-- Number 2 in a group's head is the display extension; after a picture header it is opaque.
+abbrev pub notCopyright : Place → List ℕ → ℕ → Result Extension
+notCopyright place.Head body number = cond (eqb number 2) (displayOf body) (good (opaque number))
+notCopyright place.Picture body number = good (opaque number)
+
+-- Number 4 anywhere is copyright. Any other extension is opaque.
+unfoldable pub byNumber : Place → List ℕ → ℕ → Result Extension
+byNumber place body number = cond (eqb number 4) (copyrightOf body) (notCopyright place body number)
+
+-- an extension by its number; an empty body has none, and is SHORT
+unfoldable pub extensionResult : Place → List ℕ → Result Extension
+extensionResult place body = do
+  number ← readValue (numberOf body)
+  byNumber place body number
+
+-- what reading an extension's body answers
+unfoldable pub extensionOf : Place → List ℕ → Outcome Extension
+extensionOf place body = answerOf (extensionResult place body)

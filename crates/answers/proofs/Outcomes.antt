@@ -1,0 +1,48 @@
+-- The laws of answers: done or refused and not both; what an answer came from; what is one-to-one.
+use Prim.Native.Nat.{ℕ}
+use mathlib.Core.Path.{_≡_, refl, sym, ap, _∙_}
+use mathlib.Core.List.{List}
+use native.Mathlib.Omega.{arith}
+use Rattle.answers.specs.Answers.{Outcome, done, refused, mapDone, andThen, OneToOne}
+
+pub not-done : {P A : Type 0} {n : ℕ} {carried : List ℕ} {a : A} → refused n carried ≡ done a → P
+not-done e = let z : _≡_ {A = ℕ} 0 1 = cc in absurd (omega arith)
+
+pub not-refused : {P A : Type 0} {n : ℕ} {carried : List ℕ} {a : A} → done a ≡ refused n carried → P
+not-refused e = let z : _≡_ {A = ℕ} 0 1 = cc in absurd (omega arith)
+
+pub done-one : {A : Type 0} {a b : A} → done a ≡ done b → a ≡ b
+done-one e = cc
+
+pub other-number : {P A : Type 0} {m n : ℕ} {carried more : List ℕ} → _≡_ {A = Outcome A} (refused m carried) (refused n more) → (m ≡ n → ⊥) → P
+other-number e h = absurd (h cc)
+
+-- ── one step after another ──
+
+pub goes : {A B : Type 0} {value : A} {o : Outcome A} (next : A → Outcome B) → done value ≡ o → next value ≡ andThen o next
+goes next e = ap (λ o. andThen o next) e
+
+-- what an answer that is done came from
+pub record Came {A B : Type 0} (o : Outcome A) (next : A → Outcome B) (w : B) : Type 0 where
+  pub value : A
+  pub from : o ≡ done value
+  pub to : next value ≡ done w
+
+pub came : {A B : Type 0} (o : Outcome A) (next : A → Outcome B) (w : B) → andThen o next ≡ done w → Came o next w
+came (done value) next w e = record { value = value; from = refl; to = e }
+came (refused n carried) next w e = not-done e
+
+-- what another value that is done came from
+pub mapped : {A B : Type 0} (f : A → B) (o : Outcome A) (b : B) → mapDone f o ≡ done b → (a : A) × (o ≡ done a) × (f a ≡ b)
+mapped f (done a) b e = (a, refl, done-one e)
+mapped f (refused n carried) b e = not-done e
+
+pub map-refused : {A B : Type 0} (f : A → B) (o : Outcome A) (n : ℕ) (carried : List ℕ) → mapDone f o ≡ refused n carried → o ≡ refused n carried
+map-refused f (done a) n carried e = not-refused e
+map-refused f (refused m c) n carried e = let i : m ≡ n = cc in let j : c ≡ carried = cc in rw (i, j)
+
+-- ── one-to-one ──
+
+-- a map that can be undone is one-to-one
+pub undone : {A B : Type 0} (says : A → B) (undo : B → A) → ((a : A) → undo (says a) ≡ a) → OneToOne says
+undone says undo is a b e = sym (is a) ∙ ap undo e ∙ is b

@@ -1,0 +1,4 @@
+-- What document 01 says of answers: refusal numbers and limits, for every crate above.
+pub mod Answers
+pub mod Limits
+pub mod Results

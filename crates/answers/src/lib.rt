@@ -1,0 +1,1 @@
+// Answers are said in definitions (specs/); there is no code.
