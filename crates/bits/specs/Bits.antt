@@ -39,6 +39,13 @@ readOn value (suc width) (b ∷ bits) = readOn (value * 2 + b) width bits
 unfoldable pub readAt : List ℕ → ℕ → ℕ → Read
 readAt bits place width = cond (leb width 32) (readOn 0 width (drop place bits)) read.TooWide
 
+-- What a read gives its asker: `found` of its value, or the asker's own refusal where a bit is missing. A width over 32 is asked
+-- in error, and no asker does.
+abbrev pub readOr : {A : Type 0} → (ℕ → A) → A → Read → A
+readOr found missing (read.Value n) = found n
+readOr found missing read.Missing = missing
+readOr found missing read.TooWide = missing
+
 -- bits packed into bytes, after `k` bits of a byte that write `value`; the last byte is filled with zeros
 unfoldable pub packOn : ℕ → ℕ → List ℕ → List ℕ
 packOn value zero [] = []
