@@ -30,6 +30,7 @@ module _ (stream : List ℕ) (from : ℕ) where
       record {
         within = omega arith;
         after = λ h. omega arith;
+        at-end = λ h. omega arith;
         stands = λ h. moved (nextPrefix stream from) (before (drop from stream)) (omega arith) ∙ before-found (drop from stream) (omega arith);
         none-before = λ k h i. moved k (k - from) (omega arith) ∙ before-none (drop from stream) (k - from) (omega arith);
       }

@@ -22,9 +22,11 @@ before (a ∷ bytes) = cond (begins (a ∷ bytes)) 0 (suc (before bytes))
 unfoldable pub nextPrefix : List ℕ → ℕ → ℕ
 nextPrefix stream from = length (take from stream) + before (drop from stream)
 
--- what that place is: the first at or after `from` where 00 00 01 stands, or the stream's end where there is none
+-- what that place is: the first at or after `from` where 00 00 01 stands, or the stream's end where there is none, so also
+-- where `from` is at the end or past it
 pub record First (stream : List ℕ) (from place : ℕ) : Type 0 where
   pub within : place ≤ length stream
   pub after : from ≤ length stream → from ≤ place
+  pub at-end : length stream ≤ from → place ≡ length stream
   pub stands : place < length stream → begins (drop place stream) ≡ true
   pub none-before : (k : ℕ) → from ≤ k → k < place → begins (drop k stream) ≡ false
