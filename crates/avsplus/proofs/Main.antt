@@ -9,7 +9,8 @@ use lib.Dec.{eqb}
 use lib.IntN.{ℤ, pos, negsuc, negℤ}
 use Rattle.answers.specs.Answers.{Outcome, done, refused, mapDone}
 use Rattle.answers.proofs.Outcomes.{not-done, done-one}
-use Rattle.payload.specs.Golomb.{Numbered, golomb, standsFor, withSign, signedGolomb}
+use Rattle.payload.specs.Golomb.{Numbered, standsFor, withSign}
+use Rattle.payload.specs.Reader.{golomb, signedGolomb}
 use Rattle.payload.proofs.GolombLaws.{golomb-bound}
 use Rattle.aec.specs.Bins.{bypassOf, stuffingOf, decodeOf, decodePairOf}
 use Rattle.aec.specs.declared.State.{State}

@@ -38,7 +38,7 @@ ghost use Rattle.filing.specs.Filing.{filed, wordsAfter};
 ghost use Rattle.rows.specs.Rows.{rowExists, existing};
 ghost use Rattle.groups.specs.Groups.{groupAt};
 ghost use Rattle.payload.specs.Escape.{removal, outputAfter};
-ghost use Rattle.payload.specs.Golomb.{golomb, signedGolomb};
+ghost use Rattle.payload.specs.Reader.{golomb, signedGolomb};
 ghost use Rattle.aec.specs.Bins.{freshContext, startOf, bypassOf, stuffingOf, decodeOf, decodePairOf};
 ghost use Rattle.aec.specs.Says.{refusalNumber, steppedSays};
 ghost use Rattle.avsplus.specs.Answers.{counted, answered, after, filedAnswer, partAt, kindNumber, kindAnswer};

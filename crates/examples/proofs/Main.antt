@@ -12,7 +12,8 @@ use Rattle.macroblocks.specs.Macroblocks.{macroblockColumns, macroblockRows, sl
 use Rattle.grammar.specs.Rows.{rowLength}
 use Rattle.grammar.specs.Reader.{cut, step, fileFrom, filingOfAny, filing, filingInto}
 use Rattle.payload.specs.Escape.{kept, copied, removal}
-use Rattle.payload.specs.Golomb.{zerosOn, golomb, standsFor, signedGolomb}
+use Rattle.payload.specs.Golomb.{standsFor}
+use Rattle.payload.specs.Reader.{zerosOn, golomb, signedGolomb}
 use Rattle.aec.specs.Bins.{goodState, goodContext, withinLimit, refusedFirst, doubleOf, shifts, startOf, splitOf, missesOf, remainderOf, unpredictedOf, stepOf, rateOf, nextCycno, nextLg, gainOf, foldOf, updateOf, decodeOf}
 use Rattle.examples.specs.Examples.{examples, Holds, bins}
 

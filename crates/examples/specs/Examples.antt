@@ -12,7 +12,7 @@ use Rattle.macroblocks.specs.Macroblocks.{macroblockColumns, macroblockRows}
 use Rattle.grammar.specs.Rows.{Row, words}
 use Rattle.grammar.specs.Reader.{filingInto}
 use Rattle.payload.specs.Escape.{removal, outputAfter}
-use Rattle.payload.specs.Golomb.{golomb, signedGolomb}
+use Rattle.payload.specs.Reader.{golomb, signedGolomb}
 use Rattle.aec.specs.Bins.{freshContext, startOf, decodeOf}
 use Rattle.aec.specs.declared.State.{State}
 use Rattle.aec.specs.declared.Context.{Context}

@@ -18,7 +18,8 @@ use Rattle.bits.proofs.Lists.{by-test, all-drop}
 use Rattle.answers.proofs.Outcomes.{not-done, done-one, other-number}
 use Rattle.bits.proofs.Laws.{Binary, all-payload, length-in, read-fits}
 use Rattle.bits.proofs.Main.{read-exactly, missing-exactly}
-use Rattle.payload.specs.Golomb.{Numbered, zerosOn, numberOf, golombAfter, golomb, Coded, TooManyZeros, EndsFirst}
+use Rattle.payload.specs.Golomb.{Numbered, Coded, TooManyZeros, EndsFirst}
+use Rattle.payload.specs.Reader.{zerosOn, numberOf, golombAfter, golomb}
 use Rattle.payload.specs.declared.Zeros.the-variants.{Before, TooMany, Missing}
 use Rattle.payload.proofs.GolombLaws.{golomb-long, golomb-after}
 

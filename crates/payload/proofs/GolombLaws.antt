@@ -16,7 +16,8 @@ use Rattle.bits.proofs.Lists.{by-test}
 use Rattle.answers.proofs.Outcomes.{not-done}
 use Rattle.bits.proofs.Laws.{length-payload}
 use Rattle.bits.proofs.Main.{read-exactly}
-use Rattle.payload.specs.Golomb.{Numbered, zerosOn, numberOf, golombAfter, golomb}
+use Rattle.payload.specs.Golomb.{Numbered}
+use Rattle.payload.specs.Reader.{zerosOn, numberOf, golombAfter, golomb}
 use Rattle.payload.specs.declared.Zeros.{Zeros}
 use Rattle.payload.specs.declared.Zeros.the-variants.{Before, TooMany, Missing}
 

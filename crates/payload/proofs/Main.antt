@@ -8,7 +8,8 @@ use Rattle.answers.specs.Answers.{done, refused, VALUE, PAYLOAD-OUT}
 use Rattle.bits.specs.Bits.{payload}
 use Rattle.payload.specs.Escape.{unescaped, removal, outputAfter, removedSays}
 use Rattle.answers.specs.Limits.{longestPayload}
-use Rattle.payload.specs.Golomb.{Numbered, golomb, Coded, TooManyZeros, EndsFirst, golombSays, signedSays}
+use Rattle.payload.specs.Golomb.{Numbered, Coded, TooManyZeros, EndsFirst, golombSays, signedSays}
+use Rattle.payload.specs.Reader.{golomb}
 use Rattle.payload.specs.declared.Removed.{Removed}
 use Rattle.payload.specs.declared.Golomb.{Golomb}
 use Rattle.payload.specs.declared.SignedGolomb.{SignedGolomb}

@@ -9,7 +9,8 @@ ghost use lib.Dec.{leb, eqb};
 ghost use lib.ListN.{length, getD, take, drop};
 ghost use Rattle.bits.specs.Bits.{bitsIn, packOn, payload};
 ghost use Rattle.payload.specs.Escape.{removal, outputAfter, removedSays};
-ghost use Rattle.payload.specs.Golomb.{zerosOn, golomb, golombSays, standsFor, signedGolomb, signedSays};
+ghost use Rattle.payload.specs.Golomb.{golombSays, standsFor, signedSays};
+ghost use Rattle.payload.specs.Reader.{zerosOn, golomb, signedGolomb};
 ghost use Rattle.payload.specs.Inside.{Partial, Pushable, Pushed, Copied};
 
 // ── escape removal ──

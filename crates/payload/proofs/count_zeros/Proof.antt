@@ -8,7 +8,7 @@ use borrow.Author.Tests.{eq-eqb}
 use lib.ListN.{length, drop}
 use Rattle.bits.specs.Bits.{payload}
 use Rattle.bits.proofs.Laws.{length-payload, bit-read, bit-missing, bit-inside}
-use Rattle.payload.specs.Golomb.{zerosOn}
+use Rattle.payload.specs.Reader.{zerosOn}
 use Rattle.payload.proofs.GolombLaws.{zerosFrom, zeros-more, zeros-one, zeros-out}
 use Rattle.payload.proofs.count_zeros.Statement.{statement}
 use Rattle.payload.proofs.count_zeros.Tie as tie

@@ -7,7 +7,8 @@ use lib.IntN.{ℤ}
 use mir.Facts.{toZ-ofZ}
 use mir.Syntax.{w32}
 use Rattle.answers.specs.Answers.{Outcome, done, mapDone}
-use Rattle.payload.specs.Golomb.{Numbered, golomb, golombSays, withSign, signedGolomb}
+use Rattle.payload.specs.Golomb.{Numbered, golombSays, withSign}
+use Rattle.payload.specs.Reader.{golomb, signedGolomb}
 use Rattle.payload.proofs.GolombLaws.{golomb-bound}
 use Rattle.payload.proofs.signed_golomb.Statement.{statement}
 use Rattle.payload.proofs.signed_golomb.Tie as tie

@@ -8,7 +8,8 @@ use lib.Pow.{shl-exact, pow-pos}
 use lib.ListN.{length}
 use Rattle.answers.specs.Answers.{Outcome, done}
 use Rattle.bits.specs.Bits.{payload}
-use Rattle.payload.specs.Golomb.{golombAfter, golomb, numberOf, Numbered}
+use Rattle.payload.specs.Golomb.{Numbered}
+use Rattle.payload.specs.Reader.{golombAfter, golomb, numberOf}
 use Rattle.payload.proofs.GolombLaws.{golomb-long, golomb-after, zeros-bounds, number-lt}
 use Rattle.payload.proofs.unsigned_golomb.Statement.{statement}
 use Rattle.payload.proofs.unsigned_golomb.Tie as tie
