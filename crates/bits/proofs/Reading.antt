@@ -1,14 +1,17 @@
 -- When the one read succeeds, and when bits are missing.
 use Prim.Native.Nat.{ℕ, _-_, _/_, _^_, _≤_, _<_}
-use mathlib.Core.Path.{_≡_, sym, _∙_}
+use mathlib.Core.Path.{_≡_, refl, sym, _∙_}
 use mathlib.Core.Logic.{_↔_}
 use mathlib.Core.List.{List}
 use native.Mathlib.Omega.{arith}
 use native.Mathlib.Nat.{div-eq-of-lt, div-lt-iff-lt-mul}
 use lib.ListN.{length, take, drop, length-drop}
 use lib.Pow.{pow-pos}
-use Rattle.bits.specs.Bits.{bitsIn, payload, readAt}
-use Rattle.bits.specs.declared.Read.the-variants.{Value, Missing}
+use Rattle.answers.specs.Answers.{Outcome, done, refused}
+use Rattle.answers.proofs.Outcomes.{not-done}
+use Rattle.bits.specs.Bits.{bitsIn, payload, readAt, readOr}
+use Rattle.bits.specs.declared.Read.{Read}
+use Rattle.bits.specs.declared.Read.the-variants.{Value, Missing, TooWide}
 use Rattle.bits.proofs.Lists.{all-drop}
 use Rattle.bits.proofs.Laws.{Binary, all-payload, read-fits, not-wide, read-writes, reads-written, read-lacks, lacks-read}
 
@@ -34,3 +37,10 @@ missing-exactly bits place width =
           (h, omega arith),
       λ r. let h = r .1 in read-fits bits place width (r .0) ∙ lacks-read 0 width (drop place bits) (omega arith),
     )
+
+-- an asker whose answer is done was given a value
+pub found-value : {A : Type 0} (found : ℕ → Outcome A) (number : ℕ) (carried : List ℕ) (r : Read) (a : A) →
+    readOr found (refused number carried) r ≡ done a → (v : ℕ) × (r ≡ Value v) × (found v ≡ done a)
+found-value found number carried (Value v) a e = (v, refl, e)
+found-value found number carried Missing a e = not-done e
+found-value found number carried TooWide a e = not-done e

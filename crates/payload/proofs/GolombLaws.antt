@@ -8,16 +8,16 @@ use lib.Dec.{eqb, ltb}
 use lib.ListN.{length, drop, length-drop}
 use lib.Pow.{pow-mono, pow-pos}
 use borrow.Author.Tests.{eq-eqb, ne-eqb, eqb-true, eqb-false, lt-ltb, le-ltb}
-use Rattle.answers.specs.Answers.{Outcome, done, refused, TOO-LONG}
+use Rattle.answers.specs.Answers.{Outcome, done, refused, TOO-LONG, PAYLOAD-OUT}
 use Rattle.bits.specs.Bits.{payload, readAt}
-use Rattle.bits.specs.declared.Read.{Read}
 use Rattle.bits.specs.declared.Read.the-variants as read
 use Rattle.bits.proofs.Lists.{by-test}
 use Rattle.answers.proofs.Outcomes.{not-done}
 use Rattle.bits.proofs.Laws.{length-payload}
 use Rattle.bits.proofs.Main.{read-exactly}
+use Rattle.bits.proofs.Reading.{found-value}
 use Rattle.payload.specs.Golomb.{Numbered}
-use Rattle.payload.specs.Reader.{zerosOn, numberOf, golombAfter, golomb}
+use Rattle.payload.specs.Reader.{zerosOn, golombAfter, golomb}
 use Rattle.payload.specs.declared.Zeros.{Zeros}
 use Rattle.payload.specs.declared.Zeros.the-variants.{Before, TooMany, Missing}
 
@@ -105,15 +105,14 @@ module _ (bytes : List ℕ) (count place : ℕ) where
   pub number-lt : (z next b : ℕ) → z ≤ 31 → readAt (payload bytes count) next z ≡ read.Value b → 2 ^ z - 1 + b < 4294967295
   number-lt z next b h e = let s = suffix-lt z next b e in omega (arith, pow-mono {i = z} {j = 31} h, pow-pos z)
 
-  read-bound : (z next : ℕ) (r : Read) (m : Numbered ℕ) → z ≤ 31 → readAt (payload bytes count) next z ≡ r → numberOf z next r ≡ done m → m .number < 4294967295
-  read-bound z next (read.Value b) m h e q = let n : 2 ^ z - 1 + b ≡ m .number = number-of q in let k = number-lt z next b h e in omega arith
-  read-bound z next read.Missing m h e q = let k : _≡_ {A = ℕ} 0 1 = cc in absurd (omega arith)
-  read-bound z next read.TooWide m h e q = let k : _≡_ {A = ℕ} 0 1 = cc in absurd (omega arith)
-
   after-bound : (zs : Zeros) (m : Numbered ℕ) → zerosOn 0 place (drop place (payload bytes count)) ≡ zs → golombAfter (payload bytes count) zs ≡ done m → m .number < 4294967295
-  after-bound (Before z next) m e q = read-bound z next (readAt (payload bytes count) next z) m (zeros-bounds z next e .0) refl q
-  after-bound TooMany m e q = let k : _≡_ {A = ℕ} 0 1 = cc in absurd (omega arith)
-  after-bound Missing m e q = let k : _≡_ {A = ℕ} 0 1 = cc in absurd (omega arith)
+  after-bound (Before z next) m e q =
+      let (b, is, f) = found-value _ PAYLOAD-OUT [] (readAt (payload bytes count) next z) m q in
+      let n : 2 ^ z - 1 + b ≡ m .number = number-of f in
+      let k = number-lt z next b (zeros-bounds z next e .0) is in
+      omega arith
+  after-bound TooMany m e q = not-done q
+  after-bound Missing m e q = not-done q
 
   -- a number is below 2^32 - 1, so it and its signed form fit 32 bits
   pub golomb-bound : (m : Numbered ℕ) → golomb bytes count place ≡ done m → m .number < 4294967295

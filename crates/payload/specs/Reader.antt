@@ -7,9 +7,8 @@ use lib.IntN.{ℤ}
 use lib.ListN.{length, drop}
 use Rattle.answers.specs.Answers.{Outcome, done, refused, refuseIf, mapDone, VALUE, TOO-LONG, PAYLOAD-OUT}
 use Rattle.answers.specs.Limits.{longestPayload}
-use Rattle.bits.specs.Bits.{payload, readAt}
+use Rattle.bits.specs.Bits.{payload, readAt, readOr}
 use Rattle.bits.specs.declared.Read.{Read}
-use Rattle.bits.specs.declared.Read.the-variants as read
 use Rattle.payload.specs.Golomb.{Numbered, withSign}
 use Rattle.payload.specs.declared.Zeros.{Zeros}
 use Rattle.payload.specs.declared.Zeros.the-variants as zeros
@@ -23,9 +22,7 @@ zerosOn z place (suc b ∷ bits) = zeros.Before z (place + 1)
 
 -- with the z bits of value b, one read from the place after the 1
 abbrev pub numberOf : ℕ → ℕ → Read → Outcome (Numbered ℕ)
-numberOf z place (read.Value b) = done (record { number = 2 ^ z - 1 + b; next = place + z })
-numberOf z place read.Missing = refused PAYLOAD-OUT []
-numberOf z place read.TooWide = refused VALUE []
+numberOf z place = readOr (λ b. done (record { number = 2 ^ z - 1 + b; next = place + z })) (refused PAYLOAD-OUT [])
 
 abbrev pub golombAfter : List ℕ → Zeros → Outcome (Numbered ℕ)
 golombAfter bits (zeros.Before z place) = numberOf z place (readAt bits place z)

@@ -217,7 +217,7 @@ pub fn unsigned_golomb(bytes: &[u8], count: usize, place: usize) -> Golomb
                 Golomb::Number((one << z) - 1 + b, at + z as usize)
             }
             Read::Missing => Golomb::PayloadOut,
-            Read::TooWide => Golomb::Value,
+            Read::TooWide => Golomb::PayloadOut,
         },
         Zeros::TooMany => Golomb::Value,
         Zeros::Missing => Golomb::PayloadOut,
