@@ -6,7 +6,7 @@ use mathlib.Core.Bool.{cond}
 use lib.Dec.{eqb, ltb}
 use lib.IntN.{ℤ}
 use lib.ListN.{length, drop}
-use Rattle.answers.specs.Answers.{Outcome, done, refused, VALUE, FULL, TOO-LONG}
+use Rattle.answers.specs.Answers.{Outcome, done, refused, VALUE, FULL, TOO-LONG, OneToOne}
 use Rattle.bits.specs.Bits.{bitsIn, payload, pack}
 use Rattle.bits.specs.Lists.{All}
 use Rattle.bits.proofs.Lists.{all-append, all-take, by-test}
@@ -60,8 +60,8 @@ removed-undone (removed.Done count) = refl
 removed-undone removed.Full = refl
 removed-undone removed.TooLong = refl
 
-pub removed-says-one : (a b : Removed) → removedSays a ≡ removedSays b → a ≡ b
-removed-says-one = undone removedSays removedOf removed-undone
+pub removed-one-to-one : OneToOne removedSays
+removed-one-to-one = undone removedSays removedOf removed-undone
 
 golombOf : Outcome (Numbered ℕ) → Golomb
 golombOf (done m) = unsigned.Number (m .number) (m .next)
@@ -74,8 +74,8 @@ golomb-undone unsigned.Value = refl
 golomb-undone unsigned.TooLong = refl
 golomb-undone unsigned.PayloadOut = refl
 
-pub golomb-says-one : (a b : Golomb) → golombSays a ≡ golombSays b → a ≡ b
-golomb-says-one = undone golombSays golombOf golomb-undone
+pub golomb-one-to-one : OneToOne golombSays
+golomb-one-to-one = undone golombSays golombOf golomb-undone
 
 signedOf : Outcome (Numbered ℤ) → SignedGolomb
 signedOf (done m) = signed.Number (m .number) (m .next)
@@ -88,5 +88,5 @@ signed-undone signed.Value = refl
 signed-undone signed.TooLong = refl
 signed-undone signed.PayloadOut = refl
 
-pub signed-says-one : (a b : SignedGolomb) → signedSays a ≡ signedSays b → a ≡ b
-signed-says-one = undone signedSays signedOf signed-undone
+pub signed-one-to-one : OneToOne signedSays
+signed-one-to-one = undone signedSays signedOf signed-undone

@@ -4,15 +4,12 @@ use mathlib.Core.Path.{_≡_}
 use mathlib.Core.Logic.{_↔_}
 use mathlib.Core.List.{List, []}
 use lib.ListN.{length}
-use Rattle.answers.specs.Answers.{done, refused, VALUE, PAYLOAD-OUT}
+use Rattle.answers.specs.Answers.{done, refused, VALUE, PAYLOAD-OUT, OneToOne}
 use Rattle.bits.specs.Bits.{payload}
 use Rattle.payload.specs.Escape.{unescaped, removal, outputAfter, removedSays}
 use Rattle.answers.specs.Limits.{longestPayload}
 use Rattle.payload.specs.Golomb.{Numbered, Coded, TooManyZeros, EndsFirst, golombSays, signedSays}
 use Rattle.payload.specs.Reader.{golomb}
-use Rattle.payload.specs.declared.Removed.{Removed}
-use Rattle.payload.specs.declared.Golomb.{Golomb}
-use Rattle.payload.specs.declared.SignedGolomb.{SignedGolomb}
 use Rattle.payload.proofs.Exactly as proof
 use Rattle.payload.proofs.GolombExactly as exactly
 
@@ -34,12 +31,12 @@ pub golomb-out-iff : (bytes : List ℕ) (count place : ℕ) →
     (golomb bytes count place ≡ refused PAYLOAD-OUT []) ↔ ((length bytes ≤ longestPayload) × EndsFirst (payload bytes count) place)
 golomb-out-iff = exactly.out-iff
 
--- Two answers with one number and one value are one answer.
-pub removed-says-one : (a b : Removed) → removedSays a ≡ removedSays b → a ≡ b
-removed-says-one = proof.removed-says-one
+-- No two answers say the same in document 01's terms.
+pub removed-one-to-one : OneToOne removedSays
+removed-one-to-one = proof.removed-one-to-one
 
-pub golomb-says-one : (a b : Golomb) → golombSays a ≡ golombSays b → a ≡ b
-golomb-says-one = proof.golomb-says-one
+pub golomb-one-to-one : OneToOne golombSays
+golomb-one-to-one = proof.golomb-one-to-one
 
-pub signed-says-one : (a b : SignedGolomb) → signedSays a ≡ signedSays b → a ≡ b
-signed-says-one = proof.signed-says-one
+pub signed-one-to-one : OneToOne signedSays
+signed-one-to-one = proof.signed-one-to-one

@@ -7,7 +7,7 @@ use native.Mathlib.Omega.{arith}
 use lib.Dec.{leb, eqb}
 use lib.ListN.{length, drop, length-drop}
 use lib.Seq.{drop-drop}
-use Rattle.answers.specs.Answers.{Outcome, done, refused}
+use Rattle.answers.specs.Answers.{Outcome, done, refused, OneToOne}
 use Rattle.answers.proofs.Outcomes.{undone}
 use Rattle.bits.proofs.Lists.{at-each, beq-true}
 use Rattle.startcode.specs.Prefix.{begins, before, nextPrefix, First}
@@ -44,8 +44,8 @@ unfolding unitKindOf
 kind-undone (Is k) = refl
 kind-undone Unknown = refl
 
-pub kind-says-one : (a b : UnitKind) → kindSays a ≡ kindSays b → a ≡ b
-kind-says-one = undone kindSays unitKindOf kind-undone
+pub kind-one-to-one : OneToOne kindSays
+kind-one-to-one = undone kindSays unitKindOf kind-undone
 
 abbrev pub isUnknown : Outcome Kind → Bool
 isUnknown (done k) = false

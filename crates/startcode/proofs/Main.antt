@@ -4,9 +4,9 @@ use mathlib.Core.Path.{_≡_}
 use mathlib.Core.List.{List}
 use mathlib.Core.Bool.{_||_}
 use lib.Dec.{leb, eqb}
+use Rattle.answers.specs.Answers.{OneToOne}
 use Rattle.startcode.specs.Prefix.{nextPrefix, First}
 use Rattle.startcode.specs.Kinds.{kindOf, kindSays}
-use Rattle.startcode.specs.declared.UnitKind.{UnitKind}
 use Rattle.startcode.proofs.Exactly.{isUnknown}
 use Rattle.startcode.proofs.Exactly as proof
 
@@ -14,9 +14,9 @@ use Rattle.startcode.proofs.Exactly as proof
 pub search-first : (stream : List ℕ) (from : ℕ) → First stream from (nextPrefix stream from)
 search-first = proof.search-first
 
--- Two answers of `kind_of` with one number and one value are one answer.
-pub kind-says-one : (a b : UnitKind) → kindSays a ≡ kindSays b → a ≡ b
-kind-says-one = proof.kind-says-one
+-- No two answers of `kind_of` say the same in document 01's terms.
+pub kind-one-to-one : OneToOne kindSays
+kind-one-to-one = proof.kind-one-to-one
 
 -- The bytes that no kind has are those that document 01 lists under UNKNOWN: B4, B8, and B9 to FF.
 pub unknown-bytes : (byte : ℕ) → byte < 256 → isUnknown (kindOf byte) ≡ (eqb byte 0xB4 || leb 0xB8 byte)
