@@ -13,6 +13,7 @@ use lib.Pow.{shl-lt, shl-exact}
 use lib.Seq.{take-suc, take-all, take-suc-set, drop-set-lt, drop-drop, drop-cons, length-take-le, set-split}
 use borrow.Author.Tests.{le-leb, lt-ltb, le-ltb}
 use Rattle.answers.specs.Answers.{done, refused, FULL, TOO-LONG}
+use Rattle.answers.specs.Limits.{longestPayload}
 use Rattle.bits.specs.Bits.{bitsIn, packOn, pack}
 use Rattle.bits.proofs.Lists.{by-test, and-false}
 use Rattle.bits.proofs.Laws.{length-in, bit-in}
@@ -252,15 +253,15 @@ output-made raw out₀ out p g h =
 -- ── the answer ──
 
 module _ (raw out : List ℕ) where
-  pub removal-long : 65536 < length raw → removal raw (length out) ≡ refused TOO-LONG []
+  pub removal-long : longestPayload < length raw → removal raw (length out) ≡ refused TOO-LONG []
   unfolding removal
-  removal-long h = simp (lt-ltb 65536 (length raw) h)
+  removal-long h = simp (lt-ltb longestPayload (length raw) h)
 
-  module _ (h : length raw ≤ 65536) where
+  module _ (h : length raw ≤ longestPayload) where
     pub removal-full : length out < length raw → removal raw (length out) ≡ refused FULL []
     unfolding removal
-    removal-full k = simp (le-ltb 65536 (length raw) h, lt-ltb (length out) (length raw) k)
+    removal-full k = simp (le-ltb longestPayload (length raw) h, lt-ltb (length out) (length raw) k)
 
     pub removal-done : length raw ≤ length out → removal raw (length out) ≡ done (length (unescaped raw))
     unfolding removal
-    removal-done k = simp (le-ltb 65536 (length raw) h, le-ltb (length out) (length raw) k)
+    removal-done k = simp (le-ltb longestPayload (length raw) h, le-ltb (length out) (length raw) k)

@@ -7,6 +7,7 @@ use lib.Dec.{eqb, ltb}
 use lib.IntN.{ℤ}
 use lib.ListN.{length, drop}
 use Rattle.answers.specs.Answers.{Outcome, done, refused, VALUE, FULL, TOO-LONG, OneToOne}
+use Rattle.answers.specs.Limits.{longestPayload}
 use Rattle.bits.specs.Bits.{bitsIn, payload, pack}
 use Rattle.bits.specs.Lists.{All}
 use Rattle.bits.proofs.Lists.{all-append, all-take, by-test}
@@ -36,7 +37,7 @@ all-copied before (byte ∷ raw) =
 done-count : (raw : List ℕ) (room count : ℕ) → removal raw room ≡ done count → length (unescaped raw) ≡ count
 unfolding removal
 done-count raw room count e =
-    by-test (ltb 65536 (length raw))
+    by-test (ltb longestPayload (length raw))
     (λ t. let q : refused TOO-LONG [] ≡ done count = rw t at e in not-done q)
     (λ f.
     by-test (ltb room (length raw))

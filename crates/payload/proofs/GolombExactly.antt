@@ -10,6 +10,7 @@ use lib.Dec.{leb, ltb}
 use lib.ListN.{length, take, drop, replicate, replicate-append-replicate, take-append-drop, length-drop}
 use lib.Seq.{drop-drop, take-append-seam}
 use Rattle.answers.specs.Answers.{Outcome, done, refused, VALUE, TOO-LONG, PAYLOAD-OUT}
+use Rattle.answers.specs.Limits.{longestPayload}
 use Rattle.bits.specs.Bits.{bitsIn, payload, readOn, readAt}
 use Rattle.bits.specs.Lists.{All}
 use Rattle.bits.specs.declared.Read.{Read}
@@ -175,34 +176,34 @@ module _ (bytes : List ℕ) (count place : ℕ) where
   -- ── exactly when ──
 
   -- within the limit the answer is that of the bits; over it TOO LONG
-  within : length bytes ≤ 65536 → golomb bytes count place ≡ answer
+  within : length bytes ≤ longestPayload → golomb bytes count place ≡ answer
   within h = sym (golomb-after bytes count place _ h refl)
 
-  by-limit : {P : Type 0} (o : Outcome (Numbered ℕ)) → golomb bytes count place ≡ o → (refused TOO-LONG [] ≡ o → P) → (length bytes ≤ 65536 → answer ≡ o → P) → P
+  by-limit : {P : Type 0} (o : Outcome (Numbered ℕ)) → golomb bytes count place ≡ o → (refused TOO-LONG [] ≡ o → P) → (length bytes ≤ longestPayload → answer ≡ o → P) → P
   by-limit o e over under =
-      by-test (leb (length bytes) 65536) (λ t. under (leb-true _ _ t) (sym (within (leb-true _ _ t)) ∙ e))
+      by-test (leb (length bytes) longestPayload) (λ t. under (leb-true _ _ t) (sym (within (leb-true _ _ t)) ∙ e))
       (λ f. over (golomb-long bytes count place (leb-false _ _ f) ∙ e))
 
-  pub golomb-iff : (m : Numbered ℕ) → (golomb bytes count place ≡ done m) ↔ ((length bytes ≤ 65536) × Coded bits place m)
+  pub golomb-iff : (m : Numbered ℕ) → (golomb bytes count place ≡ done m) ↔ ((length bytes ≤ longestPayload) × Coded bits place m)
   golomb-iff m = (λ e. by-limit (done m) e (λ q. not-done q) (λ h q. (h, coded h q begins)), λ c. within (c .0) ∙ coded-answers m (c .1))
     where
-      coded : length bytes ≤ 65536 → answer ≡ done m → Begins → Coded bits place m
+      coded : length bytes ≤ longestPayload → answer ≡ done m → Begins → Coded bits place m
       coded h q (inl (n, c)) = subst (Coded bits place) (done-one (sym (coded-answers n c) ∙ q)) c
       coded h q (inr (inl c)) = not-done (sym (many-answers c) ∙ q)
       coded h q (inr (inr c)) = not-done (sym (ends-answers c) ∙ q)
 
-  pub value-iff : (golomb bytes count place ≡ refused VALUE []) ↔ ((length bytes ≤ 65536) × TooManyZeros bits place)
+  pub value-iff : (golomb bytes count place ≡ refused VALUE []) ↔ ((length bytes ≤ longestPayload) × TooManyZeros bits place)
   value-iff = (λ e. by-limit (refused VALUE []) e (λ q. other-number q (λ z. omega arith)) (λ h q. (h, many h q begins)), λ c. within (c .0) ∙ many-answers (c .1))
     where
-      many : length bytes ≤ 65536 → answer ≡ refused VALUE [] → Begins → TooManyZeros bits place
+      many : length bytes ≤ longestPayload → answer ≡ refused VALUE [] → Begins → TooManyZeros bits place
       many h q (inl (n, c)) = not-done (sym q ∙ coded-answers n c)
       many h q (inr (inl c)) = c
       many h q (inr (inr c)) = other-number (sym (ends-answers c) ∙ q) (λ z. omega arith)
 
-  pub out-iff : (golomb bytes count place ≡ refused PAYLOAD-OUT []) ↔ ((length bytes ≤ 65536) × EndsFirst bits place)
+  pub out-iff : (golomb bytes count place ≡ refused PAYLOAD-OUT []) ↔ ((length bytes ≤ longestPayload) × EndsFirst bits place)
   out-iff = (λ e. by-limit (refused PAYLOAD-OUT []) e (λ q. other-number q (λ z. omega arith)) (λ h q. (h, ends h q begins)), λ c. within (c .0) ∙ ends-answers (c .1))
     where
-      ends : length bytes ≤ 65536 → answer ≡ refused PAYLOAD-OUT [] → Begins → EndsFirst bits place
+      ends : length bytes ≤ longestPayload → answer ≡ refused PAYLOAD-OUT [] → Begins → EndsFirst bits place
       ends h q (inl (n, c)) = not-done (sym q ∙ coded-answers n c)
       ends h q (inr (inl c)) = other-number (sym (many-answers c) ∙ q) (λ z. omega arith)
       ends h q (inr (inr c)) = c

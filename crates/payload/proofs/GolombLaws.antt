@@ -9,6 +9,7 @@ use lib.ListN.{length, drop, length-drop}
 use lib.Pow.{pow-mono, pow-pos}
 use borrow.Author.Tests.{eq-eqb, ne-eqb, eqb-true, eqb-false, lt-ltb, le-ltb}
 use Rattle.answers.specs.Answers.{Outcome, done, refused, TOO-LONG, PAYLOAD-OUT}
+use Rattle.answers.specs.Limits.{longestPayload}
 use Rattle.bits.specs.Bits.{payload, readAt}
 use Rattle.bits.specs.declared.Read.the-variants as read
 use Rattle.bits.proofs.Lists.{by-test}
@@ -80,15 +81,15 @@ number-of : {m n : Numbered ℕ} → done m ≡ done n → m .number ≡ n .numb
 unfolding valueOf
 number-of e = ap valueOf e
 
-pub golomb-long : (bytes : List ℕ) (count place : ℕ) → 65536 < length bytes → refused TOO-LONG [] ≡ golomb bytes count place
+pub golomb-long : (bytes : List ℕ) (count place : ℕ) → longestPayload < length bytes → refused TOO-LONG [] ≡ golomb bytes count place
 unfolding golomb
-golomb-long bytes count place h = simp (lt-ltb 65536 (length bytes) h)
+golomb-long bytes count place h = simp (lt-ltb longestPayload (length bytes) h)
 
 module _ (bytes : List ℕ) (count place : ℕ) where
-  pub golomb-after : (zs : Zeros) → length bytes ≤ 65536 → zs ≡ zerosOn 0 place (drop place (payload bytes count)) →
+  pub golomb-after : (zs : Zeros) → length bytes ≤ longestPayload → zs ≡ zerosOn 0 place (drop place (payload bytes count)) →
       golombAfter (payload bytes count) zs ≡ golomb bytes count place
   unfolding golomb
-  golomb-after zs h e = simp (le-ltb 65536 (length bytes) h, e)
+  golomb-after zs h e = simp (le-ltb longestPayload (length bytes) h, e)
 
   -- the zeros before a 1 that is there, and the place after it
   pub zeros-bounds : (z next : ℕ) → zerosOn 0 place (drop place (payload bytes count)) ≡ Before z next → (z ≤ 31) × (next ≤ length bytes * 8)
@@ -118,6 +119,6 @@ module _ (bytes : List ℕ) (count place : ℕ) where
   pub golomb-bound : (m : Numbered ℕ) → golomb bytes count place ≡ done m → m .number < 4294967295
   unfolding golomb
   golomb-bound m e =
-      by-test (ltb 65536 (length bytes))
+      by-test (ltb longestPayload (length bytes))
       (λ t. let q : refused TOO-LONG [] ≡ done m = rw t at e in not-done q)
       (λ f. after-bound (zerosOn 0 place (drop place (payload bytes count))) m refl (rw f at e))

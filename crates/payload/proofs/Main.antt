@@ -5,9 +5,9 @@ use mathlib.Core.Logic.{_↔_}
 use mathlib.Core.List.{List, []}
 use lib.ListN.{length}
 use Rattle.answers.specs.Answers.{done, refused, VALUE, PAYLOAD-OUT, OneToOne}
+use Rattle.answers.specs.Limits.{longestPayload}
 use Rattle.bits.specs.Bits.{payload}
 use Rattle.payload.specs.Escape.{unescaped, removal, outputAfter, removedSays}
-use Rattle.answers.specs.Limits.{longestPayload}
 use Rattle.payload.specs.Golomb.{Numbered, Coded, TooManyZeros, EndsFirst, golombSays, signedSays}
 use Rattle.payload.specs.Reader.{golomb}
 use Rattle.payload.proofs.Exactly as proof

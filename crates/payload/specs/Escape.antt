@@ -5,8 +5,8 @@ use mathlib.Core.Bool.{cond, _&&_}
 use lib.Dec.{eqb, ltb}
 use lib.ListN.{length, take, drop}
 use Rattle.answers.specs.Answers.{Outcome, done, refused, refuseIf, FULL, TOO-LONG}
-use Rattle.bits.specs.Bits.{bitsIn, pack}
 use Rattle.answers.specs.Limits.{longestPayload}
+use Rattle.bits.specs.Bits.{bitsIn, pack}
 use Rattle.payload.specs.declared.Removed.{Removed}
 use Rattle.payload.specs.declared.Removed.the-variants as removed
 

@@ -7,11 +7,15 @@ ghost use mathlib.Core.List.{[], _++_};
 ghost use Prim.Native.Nat.{_+_, _*_, _≤_, _<_};
 ghost use lib.Dec.{leb, eqb};
 ghost use lib.ListN.{length, getD, take, drop};
+ghost use Rattle.answers.specs.Limits.{longestPayload};
 ghost use Rattle.bits.specs.Bits.{bitsIn, packOn, payload};
 ghost use Rattle.payload.specs.Escape.{removal, outputAfter, removedSays};
 ghost use Rattle.payload.specs.Golomb.{golombSays, standsFor, signedSays};
 ghost use Rattle.payload.specs.Reader.{zerosOn, golomb, signedGolomb};
 ghost use Rattle.payload.specs.Inside.{Partial, Pushable, Pushed, Copied};
+
+// The most bytes of a payload.
+const LIMIT: usize = 65536;
 
 // ── escape removal ──
 
@@ -84,7 +88,7 @@ fn kept_width(zeros: usize, byte: u8) -> u32
 
 // The raw bytes 00 just before the next byte.
 fn zeros_after(zeros: usize, byte: u8) -> usize
-    requires { ⌜ zeros < 65536 ⌝ }
+    requires { ⌜ zeros < longestPayload ⌝ }
     ensures { λ r. ⌜ r ≡ cond (eqb byte 0) (zeros + 1) 0 ⌝ }
 {
     if byte == 0 { zeros + 1 } else { 0 }
@@ -104,7 +108,7 @@ fn push_kept(out: &mut [u8], p: Packer, byte: u8, width: u32) -> Packer
 
 // The bits that stay are pushed; the last byte may be still to be written.
 fn copy_bits(raw: &[u8], out: &mut [u8]) -> Packer
-    requires { ⌜ (length (now raw) ≤ 65536) × (length (now raw) ≤ length (now out)) ⌝ }
+    requires { ⌜ (length (now raw) ≤ longestPayload) × (length (now raw) ≤ length (now out)) ⌝ }
     ensures { λ r. ⌜ Copied (now (raw .entry)) (now (out .entry)) (now (out .exit)) r ⌝ }
 {
     let mut p = Packer {
@@ -126,7 +130,7 @@ fn copy_bits(raw: &[u8], out: &mut [u8]) -> Packer
 
 // The last byte is filled with zeros and written; the answer is the bit count.
 fn fill_last(out: &mut [u8], p: Packer) -> usize
-    requires { ⌜ Partial p × (p .full * 8 + p .k ≤ length (now out) * 8) × (p .full ≤ 65536) ⌝ }
+    requires { ⌜ Partial p × (p .full * 8 + p .k ≤ length (now out) * 8) × (p .full ≤ longestPayload) ⌝ }
     ensures count { λ r. ⌜ r ≡ p .full * 8 + p .k ⌝ }
     ensures written { λ r. ⌜ now (out .exit) ≡ take (p .full) (now (out .entry)) ++ packOn (p .value) (p .k) [] ++ drop (p .full + length (packOn (p .value) (p .k) [])) (now (out .entry)) ⌝ }
 {
@@ -145,7 +149,7 @@ pub fn remove_escapes(raw: &[u8], out: &mut [u8]) -> Removed
     ensures answer { λ r. ⌜ removedSays r ≡ removal (now (raw .entry)) (length (now (out .entry))) ⌝ }
     ensures output { λ r. ⌜ now (out .exit) ≡ outputAfter (removal (now (raw .entry)) (length (now (out .entry)))) (now (raw .entry)) (now (out .entry)) ⌝ }
 {
-    if 65536 < raw.len() {
+    if LIMIT < raw.len() {
         return Removed::TooLong;
     }
     if out.len() < raw.len() {
@@ -207,7 +211,7 @@ fn count_zeros(bytes: &[u8], count: usize, place: usize) -> Zeros
 pub fn unsigned_golomb(bytes: &[u8], count: usize, place: usize) -> Golomb
     ensures { λ r. ⌜ golombSays r ≡ golomb (now (bytes .entry)) count place ⌝ }
 {
-    if 65536 < bytes.len() {
+    if LIMIT < bytes.len() {
         return Golomb::TooLong;
     }
     match count_zeros(bytes, count, place) {
