@@ -9,7 +9,7 @@ use borrow.Author.Tests.{ne-eqb, leb-true, leb-false, ltb-true, ltb-false}
 use lib.Dec.{leb, ltb}
 use lib.ListN.{length, take, drop, replicate, replicate-append-replicate, take-append-drop, length-drop}
 use lib.Seq.{drop-drop, take-append-seam}
-use Rattle.answers.specs.Answers.{Outcome, done, refused, VALUE, TOO-LONG, PAYLOAD-OUT}
+use Rattle.answers.specs.Answers.{Outcome, done, refused, mapDone, VALUE, TOO-LONG, PAYLOAD-OUT}
 use Rattle.answers.specs.Limits.{longestPayload}
 use Rattle.bits.specs.Bits.{bitsIn, payload, readOn, readAt}
 use Rattle.bits.specs.Lists.{All}
@@ -19,8 +19,8 @@ use Rattle.bits.proofs.Lists.{by-test, all-drop}
 use Rattle.answers.proofs.Outcomes.{not-done, done-one, other-number}
 use Rattle.bits.proofs.Laws.{Binary, all-payload, length-in, read-fits}
 use Rattle.bits.proofs.Main.{read-exactly, missing-exactly}
-use Rattle.payload.specs.Golomb.{Numbered, Coded, TooManyZeros, EndsFirst}
-use Rattle.payload.specs.Reader.{zerosOn, numberOf, golombAfter, golomb}
+use Rattle.payload.specs.Golomb.{Numbered, withSign, Coded, TooManyZeros, EndsFirst}
+use Rattle.payload.specs.Reader.{zerosOn, numberOf, golombAfter, golomb, signedGolomb}
 use Rattle.payload.specs.declared.Zeros.the-variants.{Before, TooMany, Missing}
 use Rattle.payload.proofs.GolombLaws.{golomb-long, golomb-after}
 
@@ -207,3 +207,20 @@ module _ (bytes : List ℕ) (count place : ℕ) where
       ends h q (inl (n, c)) = not-done (sym q ∙ coded-answers n c)
       ends h q (inr (inl c)) = other-number (sym (many-answers c) ∙ q) (λ z. omega arith)
       ends h q (inr (inr c)) = c
+
+  pub long-iff : (golomb bytes count place ≡ refused TOO-LONG []) ↔ (longestPayload < length bytes)
+  long-iff = (
+    λ e. by-test (leb (length bytes) longestPayload) (λ t. absurd (never (sym (within (leb-true _ _ t)) ∙ e) begins)) (λ f. leb-false _ _ f),
+    λ h. sym (golomb-long bytes count place h),
+  )
+    where
+      never : answer ≡ refused TOO-LONG [] → Begins → ⊥
+      never q (inl (n, c)) = not-done (sym q ∙ coded-answers n c)
+      never q (inr (inl c)) = other-number (sym (many-answers c) ∙ q) (λ z. omega arith)
+      never q (inr (inr c)) = other-number (sym (ends-answers c) ∙ q) (λ z. omega arith)
+
+  -- ── signed ──
+
+  pub signed-is : signedGolomb bytes count place ≡ mapDone withSign (golomb bytes count place)
+  unfolding signedGolomb
+  signed-is = refl

@@ -1,15 +1,15 @@
 -- What is proved of payloads beyond the contracts of the functions.
-use Prim.Native.Nat.{ℕ, _≤_}
+use Prim.Native.Nat.{ℕ, _≤_, _<_}
 use mathlib.Core.Path.{_≡_}
 use mathlib.Core.Logic.{_↔_}
 use mathlib.Core.List.{List, []}
 use lib.ListN.{length}
-use Rattle.answers.specs.Answers.{done, refused, VALUE, PAYLOAD-OUT, OneToOne}
+use Rattle.answers.specs.Answers.{done, refused, mapDone, VALUE, TOO-LONG, PAYLOAD-OUT, OneToOne}
 use Rattle.answers.specs.Limits.{longestPayload}
 use Rattle.bits.specs.Bits.{payload}
 use Rattle.payload.specs.Escape.{unescaped, removal, outputAfter, removedSays}
-use Rattle.payload.specs.Golomb.{Numbered, Coded, TooManyZeros, EndsFirst, golombSays, signedSays}
-use Rattle.payload.specs.Reader.{golomb}
+use Rattle.payload.specs.Golomb.{Numbered, withSign, Coded, TooManyZeros, EndsFirst, golombSays, signedSays}
+use Rattle.payload.specs.Reader.{golomb, signedGolomb}
 use Rattle.payload.proofs.Exactly as proof
 use Rattle.payload.proofs.GolombExactly as exactly
 
@@ -30,6 +30,13 @@ golomb-value-iff = exactly.value-iff
 pub golomb-out-iff : (bytes : List ℕ) (count place : ℕ) →
     (golomb bytes count place ≡ refused PAYLOAD-OUT []) ↔ ((length bytes ≤ longestPayload) × EndsFirst (payload bytes count) place)
 golomb-out-iff = exactly.out-iff
+
+pub golomb-long-iff : (bytes : List ℕ) (count place : ℕ) → (golomb bytes count place ≡ refused TOO-LONG []) ↔ (longestPayload < length bytes)
+golomb-long-iff = exactly.long-iff
+
+-- The signed answer is the unsigned one, with what its number stands for.
+pub signed-is : (bytes : List ℕ) (count place : ℕ) → signedGolomb bytes count place ≡ mapDone withSign (golomb bytes count place)
+signed-is = exactly.signed-is
 
 -- No two answers say the same in document 01's terms.
 pub removed-one-to-one : OneToOne removedSays
