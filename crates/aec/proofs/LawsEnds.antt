@@ -9,10 +9,10 @@ use borrow.Author.Tests.{le-leb, leb-true, leb-false}
 use lib.Dec.{leb}
 use lib.ListN.{length}
 use Rattle.answers.specs.Answers.{Outcome, done, refused, TOO-LONG, BAD-STATE, PAYLOAD-OUT, andThen, OneToOne}
-use Rattle.bits.specs.Bits.{payload, readAt}
+use Rattle.bits.specs.Bits.{payload, readAt, readOr}
 use Rattle.bits.proofs.Lists.{by-test}
 use Rattle.bits.proofs.Main.{missing-exactly}
-use Rattle.aec.specs.Bins.{goodState, goodContext, freshContext, withinLimit, refusedFirst, settleOf, wanted, startOf, stepOf, pairOf, plainOf, decodeOf, decodePairOf, updateOf}
+use Rattle.aec.specs.Bins.{goodState, goodContext, freshContext, withinLimit, refusedFirst, noBit, settleOf, startOf, stepOf, pairOf, plainOf, decodeOf, decodePairOf, updateOf}
 use Rattle.aec.specs.Says.{refusalSays, startedSays, steppedSays, decodedSays, decodedPairSays}
 use Rattle.aec.specs.Claims.{Leads, Runs, runs-done, runs-out, Refuses, SameBits}
 use Rattle.aec.specs.declared.State.{State}
@@ -32,7 +32,7 @@ use Rattle.answers.proofs.Outcomes.{undone, goes, came}
 use Rattle.aec.proofs.LawsRanges.{both, state-ranges, ranges-state, context-ranges, ranges-context}
 use Rattle.aec.proofs.LawsContexts.{Predicts, pair-predicts, update-ranges}
 use Rattle.aec.proofs.LawsSteps.{limit-passed, limit-kept, first-long, first-bad, first-fine, first-held}
-use Rattle.aec.proofs.LawsGood.{step-good, start-ranges, runs-then, runs-wanted, runs-settle, runs-step}
+use Rattle.aec.proofs.LawsGood.{step-good, start-ranges, runs-then, runs-read, runs-settle, runs-step}
 
 -- ── no two answers say the same ──
 
@@ -181,7 +181,7 @@ module _ (bytes : List ℕ) (count : ℕ) (x : State) where
 module _ (bytes : List ℕ) (count : ℕ) where
   -- what the start does past its first test
   abbrev starting : Outcome State
-  starting = andThen (wanted (readAt (payload bytes count) 0 9)) (λ vt. settleOf (payload bytes count) 255 vt 9)
+  starting = readOr (λ vt. settleOf (payload bytes count) 255 vt 9) noBit (readAt (payload bytes count) 0 9)
 
   start-past : length bytes ≤ 65536 → starting ≡ startOf bytes count
   unfolding startOf
@@ -196,7 +196,7 @@ module _ (bytes : List ℕ) (count : ℕ) where
     λ e.
         by-test (leb (length bytes) 65536)
         (λ t.
-        let r = runs-then (λ vt. settleOf (payload bytes count) 255 vt 9) (runs-wanted (readAt (payload bytes count) 0 9)) (λ vt. runs-settle (payload bytes count) 255 vt 9) in
+        let r = runs-read _ (λ vt. runs-settle (payload bytes count) 255 vt 9) (readAt (payload bytes count) 0 9) in
         absurd (runs-not TOO-LONG r (λ z. omega arith) (start-past (leb-true (length bytes) 65536 t) ∙ e)))
         (λ f. leb-false (length bytes) 65536 f),
     λ h. sym (start-over h),
@@ -205,7 +205,7 @@ module _ (bytes : List ℕ) (count : ℕ) where
   pub start-out : length bytes ≤ 65536 → length (payload bytes count) < 9 → startOf bytes count ≡ refused PAYLOAD-OUT []
   start-out h k =
       let m = missing-exactly (payload bytes count) 0 9 .1 (omega arith, omega arith) in
-      sym (start-past h) ∙ ap (λ r. andThen (wanted r) (λ vt. settleOf (payload bytes count) 255 vt 9)) m
+      sym (start-past h) ∙ ap (readOr (λ vt. settleOf (payload bytes count) 255 vt 9) noBit) m
 
 -- ── only the payload's bits count ──
 

@@ -6,13 +6,14 @@ use mathlib.Core.Bool.{Bool}
 use native.Mathlib.Omega.{arith}
 use lib.Dec.{eqb}
 use lib.ListN.{length, drop}
-use Rattle.answers.specs.Answers.{Outcome, done, andThen}
-use Rattle.bits.specs.Bits.{payload, readAt}
+use Rattle.answers.specs.Answers.{Outcome, done, andThen, PAYLOAD-OUT}
+use Rattle.bits.specs.Bits.{payload, readAt, readOr}
 use Rattle.bits.specs.declared.Read.{Read}
 use Rattle.bits.specs.declared.Read.the-variants as read
 use Rattle.bits.proofs.Lists.{by-test}
 use Rattle.bits.proofs.Laws.{all-payload}
-use Rattle.aec.specs.Bins.{withinLimit, doubleOf, shifts, normaliseOf, widenOf, settleOf, wanted, startOf, splitOf, missesOf, remainderOf, unpredictedOf, stepOf}
+use Rattle.bits.proofs.Reading.{found-value}
+use Rattle.aec.specs.Bins.{withinLimit, noBit, doubleOf, shifts, normaliseOf, widenOf, settleOf, startOf, splitOf, missesOf, remainderOf, unpredictedOf, stepOf}
 use Rattle.aec.specs.Claims.{Runs, runs-done, runs-out}
 use Rattle.aec.specs.declared.State.{State}
 use Rattle.aec.specs.declared.Shift.{Shift}
@@ -78,14 +79,8 @@ unfolding startOf
 start-ranges bytes count x e =
     let l = payload bytes count in
     let c = came (withinLimit bytes) _ x e in
-    let d = came (wanted (readAt l 0 9)) _ x (c .to) in
-    let n = nine-bits bytes count (d .value) (value-read (readAt l 0 9) (d .value) (d .from)) in
-    settle-good bytes count (limit-held bytes (c .from)) 255 (d .value) 9 x (omega arith) (n .0) (d .to) .0
-  where
-    value-read : (r : Read) (v : ℕ) → wanted r ≡ done v → r ≡ read.Value v
-    value-read (read.Value n) v e = let z : n ≡ v = cc in rw z
-    value-read read.Missing v e = let z : _≡_ {A = ℕ} 0 1 = cc in absurd (omega arith)
-    value-read read.TooWide v e = let z : _≡_ {A = ℕ} 0 1 = cc in absurd (omega arith)
+    let (vt, is, to) = found-value _ PAYLOAD-OUT [] (readAt l 0 9) x (c .to) in
+    settle-good bytes count (limit-held bytes (c .from)) 255 vt 9 x (omega arith) (nine-bits bytes count vt is .0) to .0
 
 -- ── past the first tests only PAYLOAD OUT refuses ──
 
@@ -103,10 +98,10 @@ unfolding shifts
 runs-shifts enough step [] z = chosen Runs (enough z) _ _ (λ t. runs-done) (λ f. runs-out)
 runs-shifts enough step (b ∷ l) z = chosen Runs (enough z) _ _ (λ t. runs-done) (λ f. runs-shifts enough step l _)
 
-pub runs-wanted : (r : Read) → Runs (wanted r)
-runs-wanted (read.Value n) = runs-done
-runs-wanted read.Missing = runs-out
-runs-wanted read.TooWide = runs-out
+pub runs-read : {A : Type 0} (found : ℕ → Outcome A) → ((n : ℕ) → Runs (found n)) → (r : Read) → Runs (readOr found noBit r)
+runs-read found k (read.Value n) = k n
+runs-read found k read.Missing = runs-out
+runs-read found k read.TooWide = runs-out
 
 pub runs-settle : (l : List ℕ) (rt vt place : ℕ) → Runs (settleOf l rt vt place)
 runs-settle l rt vt place = runs-then _ (runs-shifts _ _ (drop place l) _) (λ z. runs-done)

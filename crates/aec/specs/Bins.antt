@@ -5,9 +5,7 @@ use mathlib.Core.Bool.{Bool, true, cond, _&&_, _||_}
 use lib.ListN.{length, drop}
 use lib.Dec.{leb, ltb, eqb}
 use Rattle.answers.specs.Answers.{Outcome, done, refused, andThen, TOO-LONG, BAD-STATE, PAYLOAD-OUT}
-use Rattle.bits.specs.Bits.{payload, readAt}
-use Rattle.bits.specs.declared.Read.{Read}
-use Rattle.bits.specs.declared.Read.the-variants as read
+use Rattle.bits.specs.Bits.{payload, readAt, readOr}
 use Rattle.aec.specs.declared.State.{State}
 use Rattle.aec.specs.declared.Context.{Context}
 use Rattle.aec.specs.declared.Shift.{Shift}
@@ -67,17 +65,11 @@ abbrev pub settleOf : List ℕ → ℕ → ℕ → ℕ → Outcome State
 settleOf bits rt vt place =
     andThen (normaliseOf bits vt place) (λ z. done (record { rs = 0; rt = rt; vs = z .beside; vt = z .value % 256; place = z .place }))
 
--- the number that one read gave; nine bits are never TooWide, which is for a width over 32
-abbrev pub wanted : Read → Outcome ℕ
-wanted (read.Value n) = done n
-wanted read.Missing = noBit
-wanted read.TooWide = noBit
-
 -- "rS 0, rT 255, valueS 0, valueT the first nine bits", which are one read; then normalise
 unfoldable pub startOf : List ℕ → ℕ → Outcome State
 startOf bytes count =
     let bits = payload bytes count in
-    andThen (withinLimit bytes) (λ _. andThen (wanted (readAt bits 0 9)) (λ vt. settleOf bits 255 vt 9))
+    andThen (withinLimit bytes) (λ _. readOr (λ vt. settleOf bits 255 vt 9) noBit (readAt bits 0 9))
 
 -- ── "One bin" ──
 

@@ -1,10 +1,11 @@
 -- The first nine bits, and then the state that they settle to.
-use mathlib.Core.Path.{sym, ap, _∙_}
+use mathlib.Core.Path.{_≡_, sym, ap, _∙_}
 use native.Mathlib.Omega.{arith}
-use Rattle.aec.specs.Bins.{wanted, startOf}
-use Rattle.aec.specs.declared.Refusal.the-variants.{PayloadOut}
-use Rattle.aec.proofs.LawsAnswers.{stops}
-use Rattle.answers.proofs.Outcomes.{goes}
+use Rattle.answers.specs.Answers.{Outcome}
+use Rattle.bits.specs.Bits.{payload, readOr}
+use Rattle.bits.specs.declared.Read.{Read}
+use Rattle.aec.specs.Bins.{noBit, settleOf, startOf}
+use Rattle.aec.specs.declared.State.{State}
 use Rattle.aec.proofs.LawsSteps.{limit-passed, limit-kept, nine-bits}
 use borrow.Author.Needs.{needs}
 use Rattle.aec.proofs.start.Statement.{statement}
@@ -33,23 +34,26 @@ enum-told c = search needs
 enum-told-2 : tie.Need-enum-told-2
 enum-told-2 c = search needs
 
-returns-2 : tie.Need-returns-2
+-- the answer goes by the read
+abbrev by-read : (c : tie.After-read-bits) → Read → Outcome State
+by-read c = let a = c .before .before .before .args in readOr (λ vt. settleOf (payload (a .bytes .now) (a .count)) 255 vt 9) noBit
+
+answer : (c : tie.After-read-bits) →
+    let a = c .before .before .before .args in
+    by-read c (c .read-bits .result) ≡ startOf (a .bytes .now) (a .count)
 unfolding startOf
+answer c = ap (by-read c) (c .read-bits .ensures) ∙ limit-kept _ _ (c .before .if1 .left)
+
+returns-2 : tie.Need-returns-2
 returns-2 c =
     let r = c .before .before .before .before in
-    c .settle .ensures ∙ goes _ (ap wanted (sym (c .before .before .value .given .1) ∙ r .read-bits .ensures)) ∙ limit-kept _ _ (r .before .if1 .left)
+    c .settle .ensures ∙ ap (by-read r) (sym (c .before .before .value .given .1)) ∙ answer r
 
 returns-3 : tie.Need-returns-3
-unfolding startOf
-returns-3 c =
-    let r = c .before .before in
-    stops PayloadOut _ (ap wanted (sym (c .enum-told .given .1) ∙ r .read-bits .ensures)) ∙ limit-kept _ _ (r .before .if1 .left)
+returns-3 c = let r = c .before .before in ap (by-read r) (sym (c .enum-told .given .1)) ∙ answer r
 
 returns-4 : tie.Need-returns-4
-unfolding startOf
-returns-4 c =
-    let r = c .before .before in
-    stops PayloadOut _ (ap wanted (sym (c .enum-told2 .given .1) ∙ r .read-bits .ensures)) ∙ limit-kept _ _ (r .before .if1 .left)
+returns-4 c = let r = c .before .before in ap (by-read r) (sym (c .enum-told2 .given .1)) ∙ answer r
 
 pub start-spec : {M : Type 1} → statement M
 start-spec =
