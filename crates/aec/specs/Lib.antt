@@ -2,3 +2,4 @@
 pub mod Bins
 pub mod Says
 pub mod Claims
+pub mod Inside

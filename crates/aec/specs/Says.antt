@@ -4,15 +4,8 @@ use mathlib.Core.List.{[]}
 use Rattle.answers.specs.Answers.{Outcome, done, refused, TOO-LONG, BAD-STATE, PAYLOAD-OUT}
 use Rattle.aec.specs.declared.State.{State}
 use Rattle.aec.specs.declared.Context.{Context}
-use Rattle.aec.specs.declared.Shift.{Shift}
 use Rattle.aec.specs.declared.Refusal.{Refusal}
 use Rattle.aec.specs.declared.Refusal.the-variants as refusal
-use Rattle.aec.specs.declared.Checked.{Checked}
-use Rattle.aec.specs.declared.Checked.the-variants as checked
-use Rattle.aec.specs.declared.Doubled.{Doubled}
-use Rattle.aec.specs.declared.Doubled.the-variants as doubled
-use Rattle.aec.specs.declared.Shifted.{Shifted}
-use Rattle.aec.specs.declared.Shifted.the-variants as shifted
 use Rattle.aec.specs.declared.Started.{Started}
 use Rattle.aec.specs.declared.Started.the-variants as started
 use Rattle.aec.specs.declared.Stepped.{Stepped}
@@ -50,16 +43,3 @@ decodedSays (decoded.Refused r) = refusalSays r
 abbrev pub decodedPairSays : DecodedPair → Outcome (ℕ × State × Context × Context)
 decodedPairSays (decoded-pair.Done bin x a b) = done (bin, x, a, b)
 decodedPairSays (decoded-pair.Refused r) = refusalSays r
-
--- the answers of the steps inside
-abbrev pub checkedSays : Checked → Outcome (Unit {0})
-checkedSays checked.Fine = done tt
-checkedSays (checked.Refused r) = refusalSays r
-
-abbrev pub doubledSays : Doubled → Outcome (ℕ × ℕ)
-doubledSays (doubled.Done value place) = done (value, place)
-doubledSays (doubled.Refused r) = refusalSays r
-
-abbrev pub shiftedSays : Shifted → Outcome Shift
-shiftedSays (shifted.Done z) = done z
-shiftedSays (shifted.Refused r) = refusalSays r

@@ -9,7 +9,8 @@ ghost use Rattle.aec.specs.Bins.{doubleOf, normaliseOf, widenOf, settleO
 ghost use Rattle.aec.specs.Bins.{splitOf, missesOf, remainderOf, unpredictedOf, binOf};
 ghost use Rattle.aec.specs.Bins.{pairOf, plainOf, bypassOf, stuffingOf, decodeOf, decodePairOf};
 ghost use Rattle.aec.specs.Bins.{rateOf, gainOf, nextLg, nextCycno, updateOf};
-ghost use Rattle.aec.specs.Says.{checkedSays, doubledSays, shiftedSays, startedSays, steppedSays, decodedSays, decodedPairSays};
+ghost use Rattle.aec.specs.Says.{startedSays, steppedSays, decodedSays, decodedPairSays};
+ghost use Rattle.aec.specs.Inside.{checkedSays, doubledSays, shiftedSays};
 use bits::Bit;
 use bits::Read;
 

@@ -5,7 +5,8 @@ use native.Mathlib.Omega.{arith}
 use Rattle.answers.specs.Answers.{Outcome, done}
 use Rattle.bits.specs.Bits.{payload}
 use Rattle.aec.specs.Bins.{goodContext, refusedFirst, stepOf, updateOf, decodeOf}
-use Rattle.aec.specs.Says.{checkedSays, steppedSays}
+use Rattle.aec.specs.Says.{steppedSays}
+use Rattle.aec.specs.Inside.{checkedSays}
 use Rattle.aec.specs.declared.State.{State}
 use Rattle.aec.specs.declared.Context.{Context}
 use Rattle.aec.proofs.LawsAnswers.{stops, goes-on, stops-next}

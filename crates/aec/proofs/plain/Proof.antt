@@ -4,7 +4,7 @@ use native.Mathlib.Omega.{arith}
 use Rattle.answers.specs.Answers.{done}
 use mathlib.Core.Bool.{true}
 use Rattle.aec.specs.Bins.{refusedFirst}
-use Rattle.aec.specs.Says.{checkedSays}
+use Rattle.aec.specs.Inside.{checkedSays}
 use Rattle.aec.proofs.LawsAnswers.{stops}
 use Rattle.answers.proofs.Outcomes.{goes}
 use Rattle.aec.proofs.LawsRanges.{state-ranges}

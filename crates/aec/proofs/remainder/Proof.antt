@@ -8,7 +8,7 @@ use Rattle.answers.specs.Answers.{Outcome, done}
 use Rattle.bits.specs.Bits.{payload}
 use Rattle.bits.proofs.Laws.{all-payload}
 use Rattle.aec.specs.Bins.{doubleOf}
-use Rattle.aec.specs.Says.{doubledSays}
+use Rattle.aec.specs.Inside.{doubledSays}
 use Rattle.aec.specs.declared.Split.{Split}
 use Rattle.aec.proofs.LawsAnswers.{stops}
 use Rattle.answers.proofs.Outcomes.{goes}

@@ -1,6 +1,6 @@
 -- The state of a normalised value.
 use mathlib.Core.Path.{sym, ap, _∙_}
-use Rattle.aec.specs.Says.{shiftedSays}
+use Rattle.aec.specs.Inside.{shiftedSays}
 use Rattle.aec.proofs.LawsAnswers.{stops}
 use Rattle.answers.proofs.Outcomes.{goes}
 use borrow.Author.Needs.{needs}

@@ -1,15 +1,14 @@
 -- What valueT becomes, widened with R and settled.
-use Prim.Native.Nat.{_%_, _≤_, _<_}
+use Prim.Native.Nat.{_%_, _≤_, _<_, ℕ}
 use mathlib.Core.Path.{_≡_, sym, ap, _∙_}
 use mathlib.Core.List.{List}
 use native.Mathlib.Omega.{arith}
-use Prim.Native.Nat.{ℕ}
 use lib.ListN.{length}
 use Rattle.answers.specs.Answers.{Outcome, done}
 use Rattle.bits.specs.Bits.{payload}
 use Rattle.bits.proofs.Laws.{all-payload}
 use Rattle.aec.specs.Bins.{remainderOf, widenOf, settleOf, unpredictedOf}
-use Rattle.aec.specs.Says.{doubledSays, shiftedSays}
+use Rattle.aec.specs.Inside.{doubledSays, shiftedSays}
 use Rattle.aec.specs.declared.Shift.{Shift}
 use Rattle.aec.specs.declared.State.{State}
 use Rattle.aec.proofs.LawsAnswers.{stops, goes-on, stops-next}

@@ -11,7 +11,7 @@ use Rattle.answers.specs.Answers.{done}
 use Rattle.bits.specs.Bits.{payload}
 use Rattle.bits.proofs.Laws.{all-payload}
 use Rattle.aec.specs.Bins.{doubleOf, shifts, widenOf}
-use Rattle.aec.specs.Says.{doubledSays}
+use Rattle.aec.specs.Inside.{doubledSays}
 use Rattle.aec.specs.declared.Shift.{Shift}
 use Rattle.aec.proofs.LawsShifts.{Taken, taken, loop-on, loop-stops, loop-ends}
 use borrow.Author.Needs.{needs}

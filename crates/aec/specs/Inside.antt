@@ -1,0 +1,24 @@
+-- What the private functions promise one another; no part of document 01.
+use Prim.Native.Nat.{ℕ}
+use Rattle.answers.specs.Answers.{Outcome, done}
+use Rattle.aec.specs.Says.{refusalSays}
+use Rattle.aec.specs.declared.Shift.{Shift}
+use Rattle.aec.specs.declared.Checked.{Checked}
+use Rattle.aec.specs.declared.Checked.the-variants as checked
+use Rattle.aec.specs.declared.Doubled.{Doubled}
+use Rattle.aec.specs.declared.Doubled.the-variants as doubled
+use Rattle.aec.specs.declared.Shifted.{Shifted}
+use Rattle.aec.specs.declared.Shifted.the-variants as shifted
+
+-- the answers of the steps inside: what is refused before a bit is read, a number with the next bit, a loop's end
+abbrev pub checkedSays : Checked → Outcome (Unit {0})
+checkedSays checked.Fine = done tt
+checkedSays (checked.Refused r) = refusalSays r
+
+abbrev pub doubledSays : Doubled → Outcome (ℕ × ℕ)
+doubledSays (doubled.Done value place) = done (value, place)
+doubledSays (doubled.Refused r) = refusalSays r
+
+abbrev pub shiftedSays : Shifted → Outcome Shift
+shiftedSays (shifted.Done z) = done z
+shiftedSays (shifted.Refused r) = refusalSays r
