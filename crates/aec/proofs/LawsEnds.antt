@@ -9,6 +9,7 @@ use borrow.Author.Tests.{le-leb, leb-true, leb-false}
 use lib.Dec.{leb}
 use lib.ListN.{length}
 use Rattle.answers.specs.Answers.{Outcome, done, refused, TOO-LONG, BAD-STATE, PAYLOAD-OUT, andThen, OneToOne}
+use Rattle.answers.specs.Limits.{longestPayload}
 use Rattle.bits.specs.Bits.{payload, readAt, readOr}
 use Rattle.bits.proofs.Lists.{by-test}
 use Rattle.bits.proofs.Main.{missing-exactly}
@@ -136,26 +137,26 @@ module _ (bytes : List ℕ) (count : ℕ) (x : State) (contexts : Bool) {A : Typ
   refuses =
       let o = andThen (refusedFirst bytes count x contexts) next in
       let good = goodState (length (payload bytes count)) x && contexts in
-      let is-long : 65536 < length bytes → o ≡ refused TOO-LONG [] = λ h. sym (ap (λ p. andThen p next) (first-long bytes count x contexts h)) in
-      let is-bad : length bytes ≤ 65536 → good ≡ false → o ≡ refused BAD-STATE [] = λ h k. sym (ap (λ p. andThen p next) (first-bad bytes count x contexts h k)) in
-      let runs-past : length bytes ≤ 65536 → good ≡ true → Runs o = λ h k. subst Runs (goes next (first-fine bytes count x contexts h k)) runs in
+      let is-long : longestPayload < length bytes → o ≡ refused TOO-LONG [] = λ h. sym (ap (λ p. andThen p next) (first-long bytes count x contexts h)) in
+      let is-bad : length bytes ≤ longestPayload → good ≡ false → o ≡ refused BAD-STATE [] = λ h k. sym (ap (λ p. andThen p next) (first-bad bytes count x contexts h k)) in
+      let runs-past : length bytes ≤ longestPayload → good ≡ true → Runs o = λ h k. subst Runs (goes next (first-fine bytes count x contexts h k)) runs in
       record {
         long = (
           λ e.
-              by-test (leb (length bytes) 65536)
+              by-test (leb (length bytes) longestPayload)
               (λ t.
-              let h = leb-true (length bytes) 65536 t in
+              let h = leb-true (length bytes) longestPayload t in
               by-test good (λ g. absurd (runs-not TOO-LONG (runs-past h g) (λ z. omega arith) e)) (λ g. absurd (other-number TOO-LONG BAD-STATE (λ z. omega arith) (sym e ∙ is-bad h g))))
-              (λ f. leb-false (length bytes) 65536 f),
+              (λ f. leb-false (length bytes) longestPayload f),
           is-long,
         );
         bad = (
           λ e.
-              by-test (leb (length bytes) 65536)
+              by-test (leb (length bytes) longestPayload)
               (λ t.
-              let h = leb-true (length bytes) 65536 t in
+              let h = leb-true (length bytes) longestPayload t in
               (h, by-test good (λ g. absurd (runs-not BAD-STATE (runs-past h g) (λ z. omega arith) e)) (λ g. g)))
-              (λ f. absurd (other-number BAD-STATE TOO-LONG (λ z. omega arith) (sym e ∙ is-long (leb-false (length bytes) 65536 f)))),
+              (λ f. absurd (other-number BAD-STATE TOO-LONG (λ z. omega arith) (sym e ∙ is-long (leb-false (length bytes) longestPayload f)))),
           λ h. is-bad (h .0) (h .1),
         );
         past = runs-past;
@@ -183,26 +184,26 @@ module _ (bytes : List ℕ) (count : ℕ) where
   abbrev starting : Outcome State
   starting = readOr (λ vt. settleOf (payload bytes count) 255 vt 9) noBit (readAt (payload bytes count) 0 9)
 
-  start-past : length bytes ≤ 65536 → starting ≡ startOf bytes count
+  start-past : length bytes ≤ longestPayload → starting ≡ startOf bytes count
   unfolding startOf
   start-past h = limit-kept bytes starting h
 
-  start-over : 65536 < length bytes → refused TOO-LONG [] ≡ startOf bytes count
+  start-over : longestPayload < length bytes → refused TOO-LONG [] ≡ startOf bytes count
   unfolding startOf
   start-over h = limit-passed bytes starting h
 
-  pub start-long : (startOf bytes count ≡ refused TOO-LONG []) ↔ (65536 < length bytes)
+  pub start-long : (startOf bytes count ≡ refused TOO-LONG []) ↔ (longestPayload < length bytes)
   start-long = (
     λ e.
-        by-test (leb (length bytes) 65536)
+        by-test (leb (length bytes) longestPayload)
         (λ t.
         let r = runs-read _ (λ vt. runs-settle (payload bytes count) 255 vt 9) (readAt (payload bytes count) 0 9) in
-        absurd (runs-not TOO-LONG r (λ z. omega arith) (start-past (leb-true (length bytes) 65536 t) ∙ e)))
-        (λ f. leb-false (length bytes) 65536 f),
+        absurd (runs-not TOO-LONG r (λ z. omega arith) (start-past (leb-true (length bytes) longestPayload t) ∙ e)))
+        (λ f. leb-false (length bytes) longestPayload f),
     λ h. sym (start-over h),
   )
 
-  pub start-out : length bytes ≤ 65536 → length (payload bytes count) < 9 → startOf bytes count ≡ refused PAYLOAD-OUT []
+  pub start-out : length bytes ≤ longestPayload → length (payload bytes count) < 9 → startOf bytes count ≡ refused PAYLOAD-OUT []
   start-out h k =
       let m = missing-exactly (payload bytes count) 0 9 .1 (omega arith, omega arith) in
       sym (start-past h) ∙ ap (readOr (λ vt. settleOf (payload bytes count) 255 vt 9) noBit) m

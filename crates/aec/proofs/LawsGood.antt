@@ -7,6 +7,7 @@ use native.Mathlib.Omega.{arith}
 use lib.Dec.{eqb}
 use lib.ListN.{length, drop}
 use Rattle.answers.specs.Answers.{Outcome, done, andThen, PAYLOAD-OUT}
+use Rattle.answers.specs.Limits.{longestPayload}
 use Rattle.bits.specs.Bits.{payload, readAt, readOr}
 use Rattle.bits.specs.declared.Read.{Read}
 use Rattle.bits.specs.declared.Read.the-variants as read
@@ -27,7 +28,7 @@ use Rattle.aec.proofs.LawsSteps.{limit-held, nine-bits, split-ranges, n
 
 -- ── good leads to good ──
 
-module _ (bytes : List ℕ) (count : ℕ) (short : length bytes ≤ 65536) where
+module _ (bytes : List ℕ) (count : ℕ) (short : length bytes ≤ longestPayload) where
   settle-good : (rt vt place : ℕ) (y : State) → rt ≤ 255 → place ≤ length (payload bytes count) → settleOf (payload bytes count) rt vt place ≡ done y
       → (StateRanges (length (payload bytes count)) y) × (place ≤ y .place)
   settle-good rt vt place y h k e =

@@ -6,6 +6,7 @@ use mathlib.Core.Bool.{Bool, true, false, cond, _&&_, false≢true}
 use native.Mathlib.Omega.{arith}
 use borrow.Author.Tests.{le-leb, leb-true}
 use lib.ListN.{length}
+use Rattle.answers.specs.Limits.{longestPayload, mostBits}
 use Rattle.bits.specs.Bits.{payload}
 use Rattle.bits.proofs.Laws.{length-payload}
 use Rattle.bits.proofs.Lists.{by-test}
@@ -31,7 +32,7 @@ chosen P false a b h k = k refl
 
 pub record StateRanges (end : ℕ) (x : State) : Type 0 where
   pub rs : x .rs ≤ x .vs
-  pub vs : x .vs ≤ 524288
+  pub vs : x .vs ≤ mostBits
   pub rt : x .rt ≤ 255
   pub vt : x .vt ≤ 255
   pub place : x .place ≤ end
@@ -77,5 +78,5 @@ bad-context c h = not-held (goodContext c) (context-ranges c) h
 
 -- ── the payload ──
 
-pub payload-bound : (bytes : List ℕ) (count : ℕ) → length bytes ≤ 65536 → length (payload bytes count) ≤ 524288
+pub payload-bound : (bytes : List ℕ) (count : ℕ) → length bytes ≤ longestPayload → length (payload bytes count) ≤ mostBits
 payload-bound bytes count h = omega (arith, length-payload bytes count)

@@ -8,6 +8,7 @@ use borrow.Author.Tests.{le-leb, lt-leb, lt-ltb, le-ltb, eq-eqb, ne-eqb, leb-tru
 use lib.Dec.{leb, ltb, eqb}
 use lib.ListN.{length, drop, length-take}
 use Rattle.answers.specs.Answers.{Outcome, done, refused, TOO-LONG, BAD-STATE, andThen}
+use Rattle.answers.specs.Limits.{longestPayload}
 use Rattle.bits.specs.Bits.{payload, readAt}
 use Rattle.bits.specs.Lists.{All}
 use Rattle.bits.proofs.Lists.{by-test}
@@ -28,33 +29,33 @@ use Rattle.aec.proofs.LawsShifts.{taken}
 -- ── what is refused first ──
 
 module _ (bytes : List ℕ) where
-  pub limit-passed : {A : Type 0} (answer : Outcome A) → 65536 < length bytes → refused TOO-LONG [] ≡ andThen (withinLimit bytes) (λ _. answer)
+  pub limit-passed : {A : Type 0} (answer : Outcome A) → longestPayload < length bytes → refused TOO-LONG [] ≡ andThen (withinLimit bytes) (λ _. answer)
   unfolding withinLimit
   limit-passed answer h = simp (lt-leb _ _ h)
 
-  pub limit-kept : {A : Type 0} (answer : Outcome A) → length bytes ≤ 65536 → answer ≡ andThen (withinLimit bytes) (λ _. answer)
+  pub limit-kept : {A : Type 0} (answer : Outcome A) → length bytes ≤ longestPayload → answer ≡ andThen (withinLimit bytes) (λ _. answer)
   unfolding withinLimit
   limit-kept answer h = simp (le-leb _ _ h)
 
-  pub limit-held : withinLimit bytes ≡ done tt → length bytes ≤ 65536
+  pub limit-held : withinLimit bytes ≡ done tt → length bytes ≤ longestPayload
   unfolding withinLimit
-  limit-held e = by-test (leb (length bytes) 65536) (leb-true _ _) (λ f. let z : _≡_ {A = ℕ} 0 1 = cc in absurd (omega arith))
+  limit-held e = by-test (leb (length bytes) longestPayload) (leb-true _ _) (λ f. let z : _≡_ {A = ℕ} 0 1 = cc in absurd (omega arith))
 
 module _ (bytes : List ℕ) (count : ℕ) (x : State) (contexts : Bool) where
-  pub first-long : 65536 < length bytes → refused TOO-LONG [] ≡ refusedFirst bytes count x contexts
+  pub first-long : longestPayload < length bytes → refused TOO-LONG [] ≡ refusedFirst bytes count x contexts
   unfolding refusedFirst
   first-long h = limit-passed bytes _ h
 
-  pub first-bad : length bytes ≤ 65536 → (goodState (length (payload bytes count)) x && contexts) ≡ false → refused BAD-STATE [] ≡ refusedFirst bytes count x contexts
+  pub first-bad : length bytes ≤ longestPayload → (goodState (length (payload bytes count)) x && contexts) ≡ false → refused BAD-STATE [] ≡ refusedFirst bytes count x contexts
   unfolding refusedFirst
   first-bad h k = simp k (limit-kept bytes _ h)
 
-  pub first-fine : length bytes ≤ 65536 → (goodState (length (payload bytes count)) x && contexts) ≡ true → done tt ≡ refusedFirst bytes count x contexts
+  pub first-fine : length bytes ≤ longestPayload → (goodState (length (payload bytes count)) x && contexts) ≡ true → done tt ≡ refusedFirst bytes count x contexts
   unfolding refusedFirst
   first-fine h k = simp k (limit-kept bytes _ h)
 
   -- what holds of what was not refused
-  pub first-held : refusedFirst bytes count x contexts ≡ done tt → (length bytes ≤ 65536) × (goodState (length (payload bytes count)) x ≡ true) × (contexts ≡ true)
+  pub first-held : refusedFirst bytes count x contexts ≡ done tt → (length bytes ≤ longestPayload) × (goodState (length (payload bytes count)) x ≡ true) × (contexts ≡ true)
   unfolding refusedFirst
   first-held e =
       let c = came (withinLimit bytes) _ tt e in

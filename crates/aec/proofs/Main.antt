@@ -7,6 +7,7 @@ use mathlib.Core.Bool.{true, _&&_}
 use native.Mathlib.Omega.{arith}
 use lib.ListN.{length}
 use Rattle.answers.specs.Answers.{done, refused, TOO-LONG, PAYLOAD-OUT, OneToOne}
+use Rattle.answers.specs.Limits.{longestPayload}
 use Rattle.bits.specs.Bits.{payload}
 use Rattle.aec.specs.Bins.{goodState, goodContext, freshContext, startOf, bypassOf, stuffingOf, decodeOf, decodePairOf}
 use Rattle.aec.specs.Says.{refusalSays, startedSays, steppedSays, decodedSays, decodedPairSays}
@@ -70,11 +71,11 @@ pub decode-pair-refuses : (bytes : List ℕ) (count : ℕ) (x : State) (a b : Co
     → Refuses bytes count x (goodContext a && goodContext b) (decodePairOf bytes count x a b)
 decode-pair-refuses = ends.decode-pair-refuses
 
-pub start-long : (bytes : List ℕ) (count : ℕ) → (startOf bytes count ≡ refused TOO-LONG []) ↔ (65536 < length bytes)
+pub start-long : (bytes : List ℕ) (count : ℕ) → (startOf bytes count ≡ refused TOO-LONG []) ↔ (longestPayload < length bytes)
 start-long = ends.start-long
 
 -- the first nine bits are one read
-pub start-out : (bytes : List ℕ) (count : ℕ) → length bytes ≤ 65536 → length (payload bytes count) < 9 → startOf bytes count ≡ refused PAYLOAD-OUT []
+pub start-out : (bytes : List ℕ) (count : ℕ) → length bytes ≤ longestPayload → length (payload bytes count) < 9 → startOf bytes count ≡ refused PAYLOAD-OUT []
 start-out = ends.start-out
 
 -- ── Only the payload's bits count: the filling after them is never read ──

@@ -5,6 +5,7 @@ use mathlib.Core.Bool.{Bool, true, cond, _&&_, _||_}
 use lib.ListN.{length, drop}
 use lib.Dec.{leb, ltb, eqb}
 use Rattle.answers.specs.Answers.{Outcome, done, refused, andThen, TOO-LONG, BAD-STATE, PAYLOAD-OUT}
+use Rattle.answers.specs.Limits.{longestPayload, mostBits}
 use Rattle.bits.specs.Bits.{payload, readAt, readOr}
 use Rattle.aec.specs.declared.State.{State}
 use Rattle.aec.specs.declared.Context.{Context}
@@ -16,7 +17,7 @@ use Rattle.aec.specs.declared.Prediction.{Prediction}
 
 -- a state within its ranges, where the payload has `end` bits
 unfoldable pub goodState : ℕ → State → Bool
-goodState end x = leb (x .rs) (x .vs) && leb (x .vs) 524288 && leb (x .rt) 255 && leb (x .vt) 255 && leb (x .place) end
+goodState end x = leb (x .rs) (x .vs) && leb (x .vs) mostBits && leb (x .rt) 255 && leb (x .vt) 255 && leb (x .place) end
 
 -- a context within its ranges
 unfoldable pub goodContext : Context → Bool
@@ -29,7 +30,7 @@ freshContext = record { mps = 0; lg = 1023; cycno = 0 }
 
 -- TOO LONG looks at the bytes lent, whatever the bit count
 unfoldable pub withinLimit : List ℕ → Outcome (Unit {0})
-withinLimit bytes = cond (leb (length bytes) 65536) (done tt) (refused TOO-LONG [])
+withinLimit bytes = cond (leb (length bytes) longestPayload) (done tt) (refused TOO-LONG [])
 
 -- then BAD STATE, of the state or of the contexts
 unfoldable pub refusedFirst : List ℕ → ℕ → State → Bool → Outcome (Unit {0})

@@ -6,6 +6,7 @@ use mathlib.Core.List.{List, []}
 use mathlib.Core.Bool.{Bool, true, false, _&&_}
 use lib.ListN.{length}
 use Rattle.answers.specs.Answers.{Outcome, done, refused, TOO-LONG, BAD-STATE, PAYLOAD-OUT}
+use Rattle.answers.specs.Limits.{longestPayload}
 use Rattle.bits.specs.Bits.{payload}
 use Rattle.aec.specs.Bins.{goodState}
 use Rattle.aec.specs.declared.State.{State}
@@ -24,12 +25,12 @@ pub data Runs {A : Type 0} : Outcome A → Type 0 where
 
 -- exactly when each refusal is given: TOO LONG, then BAD STATE, and past these only PAYLOAD OUT
 pub record Refuses {A : Type 0} (bytes : List ℕ) (count : ℕ) (x : State) (contexts : Bool) (o : Outcome A) : Type 0 where
-  pub long : (o ≡ refused TOO-LONG []) ↔ (65536 < length bytes)
-  pub bad : (o ≡ refused BAD-STATE []) ↔ ((length bytes ≤ 65536) × ((goodState (length (payload bytes count)) x && contexts) ≡ false))
-  pub past : length bytes ≤ 65536 → (goodState (length (payload bytes count)) x && contexts) ≡ true → Runs o
+  pub long : (o ≡ refused TOO-LONG []) ↔ (longestPayload < length bytes)
+  pub bad : (o ≡ refused BAD-STATE []) ↔ ((length bytes ≤ longestPayload) × ((goodState (length (payload bytes count)) x && contexts) ≡ false))
+  pub past : length bytes ≤ longestPayload → (goodState (length (payload bytes count)) x && contexts) ≡ true → Runs o
 
 -- two payloads of the same bits, neither over the limit
 pub record SameBits (bytes : List ℕ) (count : ℕ) (others : List ℕ) (number : ℕ) : Type 0 where
-  pub short : length bytes ≤ 65536
-  pub shorter : length others ≤ 65536
+  pub short : length bytes ≤ longestPayload
+  pub shorter : length others ≤ longestPayload
   pub same : payload bytes count ≡ payload others number

@@ -3,6 +3,7 @@ ghost use mathlib.Core.Path.{_≡_};
 ghost use mathlib.Core.Bool.{true, _&&_};
 ghost use Prim.Native.Nat.{_*_, _/_, _≤_, _<_};
 ghost use lib.ListN.{length, drop};
+ghost use Rattle.answers.specs.Limits.{longestPayload, mostBits};
 ghost use Rattle.bits.specs.Bits.{payload};
 ghost use Rattle.aec.specs.Bins.{goodState, goodContext, freshContext, refusedFirst};
 ghost use Rattle.aec.specs.Bins.{doubleOf, normaliseOf, widenOf, settleOf, startOf};
@@ -98,8 +99,9 @@ struct Prediction {
     lg: u32,
 }
 
-// The most bytes that may be lent.
+// The most bytes of a payload, and their bits.
 const LIMIT: usize = 65536;
+const MOST_BITS: u32 = 524288;
 
 // A fresh context.
 pub fn fresh() -> Context
@@ -118,7 +120,7 @@ fn good_state(x: State, end: usize) -> bool
     if x.vs < x.rs {
         return false;
     }
-    if 524288 < x.vs {
+    if MOST_BITS < x.vs {
         return false;
     }
     if 255 < x.rt {
@@ -153,7 +155,7 @@ fn good_context(c: Context) -> bool
 
 // The number of the payload's bits.
 fn bit_length(bytes: &[u8], count: usize) -> usize
-    requires { ⌜ length (now bytes) ≤ 65536 ⌝ }
+    requires { ⌜ length (now bytes) ≤ longestPayload ⌝ }
     ensures { λ r. ⌜ r ≡ length (payload (now (bytes .entry)) count) ⌝ }
 {
     let all = bytes.len() * 8;
@@ -191,7 +193,7 @@ fn take_bit(bytes: &[u8], count: usize, value: u32, place: usize) -> Doubled
 
 // Doubles the value, with the next bits, while it is below 256, and counts how often.
 fn normalise(bytes: &[u8], count: usize, value: u32, place: usize) -> Shifted
-    requires { ⌜ (length (now bytes) ≤ 65536) × (place ≤ length (payload (now bytes) count)) × (value < 1048576) ⌝ }
+    requires { ⌜ (length (now bytes) ≤ longestPayload) × (place ≤ length (payload (now bytes) count)) × (value < 1048576) ⌝ }
     ensures { λ r. ⌜ shiftedSays r ≡ normaliseOf (payload (now (bytes .entry)) count) value place ⌝ }
 {
     let mut v = value;
@@ -218,7 +220,7 @@ fn normalise(bytes: &[u8], count: usize, value: u32, place: usize) -> Shifted
 
 // Doubles the range while it is below 256, and the value with it, with the next bits.
 fn widen(bytes: &[u8], count: usize, value: u32, range: u32, place: usize) -> Shifted
-    requires { ⌜ (length (now bytes) ≤ 65536) × (place ≤ length (payload (now bytes) count)) × (value < 768 * range) × (range < 512) ⌝ }
+    requires { ⌜ (length (now bytes) ≤ longestPayload) × (place ≤ length (payload (now bytes) count)) × (value < 768 * range) × (range < 512) ⌝ }
     ensures { λ r. ⌜ shiftedSays r ≡ widenOf (payload (now (bytes .entry)) count) value range place ⌝ }
 {
     let mut v = value;
@@ -245,7 +247,7 @@ fn widen(bytes: &[u8], count: usize, value: u32, range: u32, place: usize) -> Sh
 
 // The state of a normalised value.
 fn settle(bytes: &[u8], count: usize, rt: u32, value: u32, place: usize) -> Started
-    requires { ⌜ (length (now bytes) ≤ 65536) × (place ≤ length (payload (now bytes) count)) × (value < 1048576) ⌝ }
+    requires { ⌜ (length (now bytes) ≤ longestPayload) × (place ≤ length (payload (now bytes) count)) × (value < 1048576) ⌝ }
     ensures { λ r. ⌜ startedSays r ≡ settleOf (payload (now (bytes .entry)) count) rt value place ⌝ }
 {
     match normalise(bytes, count, value, place) {
@@ -276,7 +278,7 @@ pub fn start(bytes: &[u8], count: usize) -> Started
 
 // s, t and R, by whether rT reaches q.
 fn split_range(x: State, lg: u32) -> Split
-    requires { ⌜ (x .rs ≤ 524288) × (x .rt ≤ 255) × (4 ≤ lg) × (lg ≤ 1023) ⌝ }
+    requires { ⌜ (x .rs ≤ mostBits) × (x .rt ≤ 255) × (4 ≤ lg) × (lg ≤ 1023) ⌝ }
     ensures { λ r. ⌜ (r ≡ splitOf x (lg / 4)) × (r .t ≤ 255) × (1 ≤ r .range) × (r .range < 512) ⌝ }
 {
     let q = lg / 4;
@@ -320,7 +322,7 @@ fn remainder(bytes: &[u8], count: usize, x: State, y: Split) -> Doubled
 
 // The state after a bin that was not predicted.
 fn unpredicted(bytes: &[u8], count: usize, x: State, y: Split) -> Started
-    requires { ⌜ (length (now bytes) ≤ 65536) × (goodState (length (payload (now bytes) count)) x ≡ true) × (missesOf x y ≡ true) × (y .t ≤ 255) × (1 ≤ y .range) × (y .range < 512) ⌝ }
+    requires { ⌜ (length (now bytes) ≤ longestPayload) × (goodState (length (payload (now bytes) count)) x ≡ true) × (missesOf x y ≡ true) × (y .t ≤ 255) × (1 ≤ y .range) × (y .range < 512) ⌝ }
     ensures { λ r. ⌜ startedSays r ≡ unpredictedOf (payload (now (bytes .entry)) count) x y ⌝ }
 {
     match remainder(bytes, count, x, y) {
@@ -334,7 +336,7 @@ fn unpredicted(bytes: &[u8], count: usize, x: State, y: Split) -> Started
 
 // One bin, of a state within its ranges. Its callers split the range: that leaves it small enough to be inlined into each.
 fn step(bytes: &[u8], count: usize, x: State, p: u32, y: Split) -> Stepped
-    requires { ⌜ (length (now bytes) ≤ 65536) × (goodState (length (payload (now bytes) count)) x ≡ true) × (p ≤ 1) × (y .t ≤ 255) × (1 ≤ y .range) × (y .range < 512) ⌝ }
+    requires { ⌜ (length (now bytes) ≤ longestPayload) × (goodState (length (payload (now bytes) count)) x ≡ true) × (p ≤ 1) × (y .t ≤ 255) × (1 ≤ y .range) × (y .range < 512) ⌝ }
     ensures { λ r. ⌜ steppedSays r ≡ binOf (payload (now (bytes .entry)) count) x p y ⌝ }
 {
     if misses(x, y) {
