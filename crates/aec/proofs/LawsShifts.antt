@@ -16,8 +16,7 @@ use Rattle.aec.specs.Bins.{noBit, doubleOf, shifts, normaliseOf, widenOf
 use Rattle.aec.specs.Says.{refusalSays}
 use Rattle.aec.specs.declared.Shift.{Shift}
 use Rattle.aec.specs.declared.Refusal.{Refusal}
-use Rattle.aec.proofs.LawsAnswers.{stops}
-use Rattle.answers.proofs.Outcomes.{goes}
+use Rattle.answers.proofs.Outcomes.{stops, goes}
 
 -- ── one bit ──
 
@@ -90,7 +89,7 @@ module _ (enough : Shift → Bool) (step : ℕ → ℕ) where
     loop-on v h e = inv ∙ shifts-turn l z h ∙ sym (goes (turn l (z .beside)) e)
 
     pub loop-stops : (r : Refusal) → enough z ≡ false → refusalSays r ≡ doubleOf (drop (z .place) l) (z .value) (z .place) → refusalSays r ≡ whole
-    loop-stops r h e = stops r (turn l (z .beside)) e ∙ sym (inv ∙ shifts-turn l z h)
+    loop-stops r h e = stops (turn l (z .beside)) e ∙ sym (inv ∙ shifts-turn l z h)
 
     pub loop-ends : enough z ≡ true → done z ≡ whole
     loop-ends h = sym (inv ∙ shifts-enough (drop (z .place) l) z h)

@@ -21,8 +21,7 @@ use Rattle.aec.specs.declared.Split.{Split}
 use Rattle.aec.specs.declared.Prediction.{Prediction}
 use Rattle.aec.specs.declared.Refusal.{Refusal}
 use Rattle.aec.specs.Says.{refusalSays}
-use Rattle.aec.proofs.LawsAnswers.{stops}
-use Rattle.answers.proofs.Outcomes.{goes, came}
+use Rattle.answers.proofs.Outcomes.{stops, goes, came}
 use Rattle.aec.proofs.LawsRanges.{both, chosen}
 use Rattle.aec.proofs.LawsShifts.{taken}
 
@@ -160,7 +159,7 @@ module _ (l : List ℕ) (x : State) (p : ℕ) (y : Split) where
   bin-miss next h e = goes (λ next. done (1 - p, next)) e ∙ bin-missed h
 
   pub bin-stops : (r : Refusal) → missesOf x y ≡ true → refusalSays r ≡ unpredictedOf l x y → refusalSays r ≡ binOf l x p y
-  bin-stops r h e = stops r (λ next. done (1 - p, next)) e ∙ bin-missed h
+  bin-stops r h e = stops (λ next. done (1 - p, next)) e ∙ bin-missed h
 
 -- a bin of the range that the prediction splits
 pub step-is : (l : List ℕ) (x : State) (g : Prediction) (y : Split) → y ≡ splitOf x (g .lg / 4) → binOf l x (g .p) y ≡ stepOf l x g

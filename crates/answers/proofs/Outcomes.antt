@@ -22,6 +22,17 @@ other-number e h = absurd (h cc)
 pub goes : {A B : Type 0} {value : A} {o : Outcome A} (next : A → Outcome B) → done value ≡ o → next value ≡ andThen o next
 goes next e = ap (λ o. andThen o next) e
 
+pub stops : {A B : Type 0} {n : ℕ} {carried : List ℕ} {o : Outcome A} (next : A → Outcome B) → refused n carried ≡ o → refused n carried ≡ andThen o next
+stops next e = ap (λ o. andThen o next) e
+
+-- two steps, one after the other, of which the first is done
+module _ {A B C : Type 0} {o : Outcome A} (first : A → Outcome B) (next : A → B → Outcome C) {value : A} (e : done value ≡ o) where
+  pub goes-on : (w : B) → done w ≡ first value → next value w ≡ andThen o (λ a. andThen (first a) (next a))
+  goes-on w f = goes (next value) f ∙ goes (λ a. andThen (first a) (next a)) e
+
+  pub stops-next : {n : ℕ} {carried : List ℕ} → refused n carried ≡ first value → refused n carried ≡ andThen o (λ a. andThen (first a) (next a))
+  stops-next f = stops (next value) f ∙ goes (λ a. andThen (first a) (next a)) e
+
 -- what an answer that is done came from
 pub record Came {A B : Type 0} (o : Outcome A) (next : A → Outcome B) (w : B) : Type 0 where
   pub value : A

@@ -10,7 +10,7 @@ use Rattle.aec.specs.Says.{steppedSays}
 use Rattle.aec.specs.Inside.{checkedSays}
 use Rattle.aec.specs.declared.State.{State}
 use Rattle.aec.specs.declared.Context.{Context}
-use Rattle.aec.proofs.LawsAnswers.{stops, goes-on, stops-next}
+use Rattle.answers.proofs.Outcomes.{stops, goes-on, stops-next}
 use Rattle.aec.proofs.LawsRanges.{both, state-ranges, context-ranges}
 use Rattle.aec.proofs.LawsContexts.{Predicts, pair-predicts}
 use Rattle.aec.proofs.LawsSteps.{first-held, step-is}
@@ -107,11 +107,11 @@ unfolding decodePairOf
 returns-2 c =
     let s = c .before .before .before in
     let e = s .before .before .before .before .before .before .before .before in
-    stops-next (stepping e) (updating e) (fine (s .before .before .before)) (c .before .r .given .0 .0) (ap steppedSays (sym (c .before .r .given .1)) ∙ stepped s)
+    stops-next (stepping e) (updating e) (fine (s .before .before .before)) (ap steppedSays (sym (c .before .r .given .1)) ∙ stepped s)
 
 returns-3 : tie.Need-returns-3
 unfolding decodePairOf
-returns-3 c = stops (c .before .r2 .given .0 .0) _ (ap checkedSays (sym (c .before .r2 .given .1)) ∙ first (c .before .before .before))
+returns-3 c = stops _ (ap checkedSays (sym (c .before .r2 .given .1)) ∙ first (c .before .before .before))
 
 pub decode-pair-spec : {M : Type 1} → statement M
 decode-pair-spec =

@@ -5,8 +5,7 @@ use Rattle.answers.specs.Answers.{done}
 use mathlib.Core.Bool.{true}
 use Rattle.aec.specs.Bins.{refusedFirst}
 use Rattle.aec.specs.Inside.{checkedSays}
-use Rattle.aec.proofs.LawsAnswers.{stops}
-use Rattle.answers.proofs.Outcomes.{goes}
+use Rattle.answers.proofs.Outcomes.{stops, goes}
 use Rattle.aec.proofs.LawsRanges.{state-ranges}
 use Rattle.aec.proofs.LawsSteps.{first-held, step-is}
 use borrow.Author.Needs.{needs}
@@ -41,7 +40,7 @@ returns : tie.Need-returns
 returns c = c .step .ensures ∙ step-is _ _ _ _ (c .before .split-range .ensures .0) ∙ goes _ (fine (c .before .before))
 
 returns-2 : tie.Need-returns-2
-returns-2 c = stops (c .before .r .given .0 .0) _ (ap checkedSays (sym (c .before .r .given .1)) ∙ c .before .before .before .guard .ensures)
+returns-2 c = stops _ (ap checkedSays (sym (c .before .r .given .1)) ∙ c .before .before .before .guard .ensures)
 
 pub plain-spec : {M : Type 1} → statement M
 plain-spec =

@@ -11,7 +11,7 @@ use Rattle.aec.specs.Bins.{remainderOf, widenOf, settleOf, unpredictedOf
 use Rattle.aec.specs.Inside.{doubledSays, shiftedSays}
 use Rattle.aec.specs.declared.Shift.{Shift}
 use Rattle.aec.specs.declared.State.{State}
-use Rattle.aec.proofs.LawsAnswers.{stops, goes-on, stops-next}
+use Rattle.answers.proofs.Outcomes.{stops, goes-on, stops-next}
 use Rattle.aec.proofs.LawsRanges.{StateRanges, state-ranges}
 use Rattle.aec.proofs.LawsShifts.{widened}
 use Rattle.aec.proofs.LawsSteps.{remainder-within}
@@ -96,11 +96,11 @@ unfolding unpredictedOf
 returns-2 c =
     let w = c .before .before .before in
     let k = w .before in
-    stops-next (widening (entry k)) (settling (entry k)) (remains k) (c .before .r .given .0 .0) (ap shiftedSays (sym (c .before .r .given .1)) ∙ w .widen .ensures)
+    stops-next (widening (entry k)) (settling (entry k)) (remains k) (ap shiftedSays (sym (c .before .r .given .1)) ∙ w .widen .ensures)
 
 returns-3 : tie.Need-returns-3
 unfolding unpredictedOf
-returns-3 c = stops (c .before .r2 .given .0 .0) _ (ap doubledSays (sym (c .before .r2 .given .1)) ∙ c .before .before .before .remainder .ensures)
+returns-3 c = stops _ (ap doubledSays (sym (c .before .r2 .given .1)) ∙ c .before .before .before .remainder .ensures)
 
 pub unpredicted-spec : {M : Type 1} → statement M
 unpredicted-spec =
