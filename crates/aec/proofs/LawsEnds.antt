@@ -11,7 +11,7 @@ use lib.ListN.{length}
 use Rattle.answers.specs.Answers.{Outcome, done, refused, TOO-LONG, BAD-STATE, PAYLOAD-OUT, andThen, OneToOne}
 use Rattle.answers.specs.Limits.{longestPayload}
 use Rattle.bits.specs.Bits.{payload, readAt, readOr}
-use Rattle.bits.proofs.Lists.{by-test}
+use Rattle.bits.proofs.Lists.{by-test, and-true}
 use Rattle.bits.proofs.Main.{missing-exactly}
 use Rattle.aec.specs.Bins.{goodState, goodContext, freshContext, withinLimit, refusedFirst, noBit, settleOf, startOf, stepOf, pairOf, plainOf, decodeOf, decodePairOf, updateOf}
 use Rattle.aec.specs.Says.{refusalSays, startedSays, steppedSays, decodedSays, decodedPairSays}
@@ -29,8 +29,8 @@ use Rattle.aec.specs.declared.Decoded.the-variants as decoded
 use Rattle.aec.specs.declared.DecodedPair.{DecodedPair}
 use Rattle.aec.specs.declared.DecodedPair.the-variants as decoded-pair
 use Rattle.aec.proofs.LawsAnswers.{answer, answer-refused}
-use Rattle.answers.proofs.Outcomes.{undone, goes, came}
-use Rattle.aec.proofs.LawsRanges.{both, state-ranges, ranges-state, context-ranges, ranges-context}
+use Rattle.answers.proofs.Outcomes.{not-refused, other-number, undone, goes, came}
+use Rattle.aec.proofs.LawsRanges.{state-ranges, ranges-state, context-ranges, ranges-context}
 use Rattle.aec.proofs.LawsContexts.{Predicts, pair-predicts, update-ranges}
 use Rattle.aec.proofs.LawsSteps.{limit-passed, limit-kept, first-long, first-bad, first-fine, first-held}
 use Rattle.aec.proofs.LawsGood.{step-good, start-ranges, runs-then, runs-read, runs-settle, runs-step}
@@ -119,7 +119,7 @@ module _ (bytes : List ℕ) (count : ℕ) (x : State) where
   decode-pair-good a b r e =
       let f = came (refusedFirst bytes count x (goodContext a && goodContext b)) _ r e in
       let s = came (stepOf (payload bytes count) x (pairOf a b)) _ r (f .to) in
-      let good = both _ _ (first-held bytes count x (goodContext a && goodContext b) (f .from) .2) in
+      let good = and-true _ _ (first-held bytes count x (goodContext a && goodContext b) (f .from) .2) in
       let p = pair-predicts a b (context-ranges a (good .0)) (context-ranges b (good .1)) in
       let is : _≡_ {A = ℕ × State × Context × Context} (s .value .0, s .value .1, updateOf a (s .value .0), updateOf b (s .value .0)) r = cc (s .to) in
       subst (λ r. (Leads bytes count x (r .0) (r .1)) × (goodContext (r .2) ≡ true) × (goodContext (r .3) ≡ true)) is
@@ -129,8 +129,8 @@ module _ (bytes : List ℕ) (count : ℕ) (x : State) where
 
 -- an answer that runs is refused with no other number
 runs-not : {A : Type 0} {o : Outcome A} (n : ℕ) → Runs o → (n ≡ PAYLOAD-OUT → ⊥) → o ≡ refused n [] → ⊥
-runs-not n runs-done h e = let z : _≡_ {A = ℕ} 0 1 = cc in omega arith
-runs-not n runs-out h e = h (let z : PAYLOAD-OUT ≡ n = cc in sym z)
+runs-not n runs-done h e = not-refused e
+runs-not n runs-out h e = other-number e (λ z. h (sym z))
 
 module _ (bytes : List ℕ) (count : ℕ) (x : State) (contexts : Bool) {A : Type 0} (next : Unit {0} → Outcome A) (runs : Runs (next tt)) where
   refuses : Refuses bytes count x contexts (andThen (refusedFirst bytes count x contexts) next)
@@ -146,7 +146,7 @@ module _ (bytes : List ℕ) (count : ℕ) (x : State) (contexts : Bool) {A : Typ
               by-test (leb (length bytes) longestPayload)
               (λ t.
               let h = leb-true (length bytes) longestPayload t in
-              by-test good (λ g. absurd (runs-not TOO-LONG (runs-past h g) (λ z. omega arith) e)) (λ g. absurd (other-number TOO-LONG BAD-STATE (λ z. omega arith) (sym e ∙ is-bad h g))))
+              by-test good (λ g. absurd (runs-not TOO-LONG (runs-past h g) (λ z. omega arith) e)) (λ g. other-number (sym e ∙ is-bad h g) (λ z. omega arith)))
               (λ f. leb-false (length bytes) longestPayload f),
           is-long,
         );
@@ -156,14 +156,11 @@ module _ (bytes : List ℕ) (count : ℕ) (x : State) (contexts : Bool) {A : Typ
               (λ t.
               let h = leb-true (length bytes) longestPayload t in
               (h, by-test good (λ g. absurd (runs-not BAD-STATE (runs-past h g) (λ z. omega arith) e)) (λ g. g)))
-              (λ f. absurd (other-number BAD-STATE TOO-LONG (λ z. omega arith) (sym e ∙ is-long (leb-false (length bytes) longestPayload f)))),
+              (λ f. other-number (sym e ∙ is-long (leb-false (length bytes) longestPayload f)) (λ z. omega arith)),
           λ h. is-bad (h .0) (h .1),
         );
         past = runs-past;
       }
-    where
-      other-number : (n m : ℕ) → (n ≡ m → ⊥) → _≡_ {A = Outcome A} (refused n []) (refused m []) → ⊥
-      other-number n m h e = h (let z : n ≡ m = cc in z)
 
 module _ (bytes : List ℕ) (count : ℕ) (x : State) where
   pub plain-refuses : (lg : ℕ) → Refuses bytes count x true (plainOf bytes count x lg)

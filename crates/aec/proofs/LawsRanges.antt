@@ -2,23 +2,19 @@
 use Prim.Native.Nat.{ℕ, _≤_}
 use mathlib.Core.Path.{_≡_, refl, sym}
 use mathlib.Core.List.{List}
-use mathlib.Core.Bool.{Bool, true, false, cond, _&&_, false≢true}
+use mathlib.Core.Bool.{Bool, true, false, cond, _&&_}
 use native.Mathlib.Omega.{arith}
 use borrow.Author.Tests.{le-leb, leb-true}
 use lib.ListN.{length}
 use Rattle.answers.specs.Limits.{longestPayload, mostBits}
 use Rattle.bits.specs.Bits.{payload}
 use Rattle.bits.proofs.Laws.{length-payload}
-use Rattle.bits.proofs.Lists.{by-test}
+use Rattle.bits.proofs.Lists.{by-test, and-true}
 use Rattle.aec.specs.Bins.{goodState, goodContext}
 use Rattle.aec.specs.declared.State.{State}
 use Rattle.aec.specs.declared.Context.{Context}
 
 -- ── tests ──
-
-pub both : (a b : Bool) → a && b ≡ true → (a ≡ true) × (b ≡ true)
-both true b h = (refl, h)
-both false b h = absurd (false≢true h)
 
 pub not-held : {P : Type 0} (t : Bool) → (t ≡ true → P) → (P → ⊥) → false ≡ t
 not-held t holds h = by-test t (λ e. absurd (h (holds e))) sym
@@ -40,10 +36,10 @@ pub record StateRanges (end : ℕ) (x : State) : Type 0 where
 pub state-ranges : (end : ℕ) (x : State) → goodState end x ≡ true → StateRanges end x
 unfolding goodState
 state-ranges end x e =
-    let a = both _ _ e in
-    let b = both _ _ (a .0) in
-    let c = both _ _ (b .0) in
-    let d = both _ _ (c .0) in
+    let a = and-true _ _ e in
+    let b = and-true _ _ (a .0) in
+    let c = and-true _ _ (b .0) in
+    let d = and-true _ _ (c .0) in
     record { rs = leb-true _ _ (d .0); vs = leb-true _ _ (d .1); rt = leb-true _ _ (c .1); vt = leb-true _ _ (b .1); place = leb-true _ _ (a .1) }
 
 pub ranges-state : (end : ℕ) (x : State) → StateRanges end x → true ≡ goodState end x
@@ -64,9 +60,9 @@ pub record ContextRanges (c : Context) : Type 0 where
 pub context-ranges : (c : Context) → goodContext c ≡ true → ContextRanges c
 unfolding goodContext
 context-ranges c e =
-    let a = both _ _ e in
-    let b = both _ _ (a .0) in
-    let d = both _ _ (b .0) in
+    let a = and-true _ _ e in
+    let b = and-true _ _ (a .0) in
+    let d = and-true _ _ (b .0) in
     record { mps = leb-true _ _ (d .0); low = leb-true _ _ (d .1); high = leb-true _ _ (b .1); cycno = leb-true _ _ (a .1) }
 
 pub ranges-context : (c : Context) → ContextRanges c → true ≡ goodContext c

@@ -11,7 +11,7 @@ use Rattle.answers.specs.Answers.{Outcome, done, refused, TOO-LONG, BAD-STATE, 
 use Rattle.answers.specs.Limits.{longestPayload}
 use Rattle.bits.specs.Bits.{payload, readAt}
 use Rattle.bits.specs.Lists.{All}
-use Rattle.bits.proofs.Lists.{by-test}
+use Rattle.bits.proofs.Lists.{by-test, and-true}
 use Rattle.bits.specs.declared.Read.the-variants as read
 use Rattle.bits.proofs.Laws.{Binary, length-in}
 use Rattle.bits.proofs.Main.{read-exactly}
@@ -22,7 +22,7 @@ use Rattle.aec.specs.declared.Prediction.{Prediction}
 use Rattle.aec.specs.declared.Refusal.{Refusal}
 use Rattle.aec.specs.Says.{refusalSays}
 use Rattle.answers.proofs.Outcomes.{stops, goes, came}
-use Rattle.aec.proofs.LawsRanges.{both, chosen}
+use Rattle.aec.proofs.LawsRanges.{chosen}
 use Rattle.aec.proofs.LawsShifts.{taken}
 
 -- ── what is refused first ──
@@ -60,7 +60,7 @@ module _ (bytes : List ℕ) (count : ℕ) (x : State) (contexts : Bool) where
       let c = came (withinLimit bytes) _ tt e in
       let good = goodState (length (payload bytes count)) x && contexts in
       let k : good ≡ true = by-test good (λ t. t) (λ f. let z : _≡_ {A = ℕ} 0 1 = cc (c .to) in absurd (omega arith)) in
-      let b = both _ _ k in
+      let b = and-true _ _ k in
       (limit-held bytes (c .from), b .0, b .1)
 
 -- ── the first nine bits ──

@@ -5,13 +5,14 @@ use mathlib.Core.Bool.{true, _&&_}
 use native.Mathlib.Omega.{arith}
 use Rattle.answers.specs.Answers.{Outcome, done}
 use Rattle.bits.specs.Bits.{payload}
+use Rattle.bits.proofs.Lists.{and-true}
 use Rattle.aec.specs.Bins.{goodContext, refusedFirst, stepOf, pairOf, updateOf, decodePairOf}
 use Rattle.aec.specs.Says.{steppedSays}
 use Rattle.aec.specs.Inside.{checkedSays}
 use Rattle.aec.specs.declared.State.{State}
 use Rattle.aec.specs.declared.Context.{Context}
 use Rattle.answers.proofs.Outcomes.{stops, goes-on, stops-next}
-use Rattle.aec.proofs.LawsRanges.{both, state-ranges, context-ranges}
+use Rattle.aec.proofs.LawsRanges.{state-ranges, context-ranges}
 use Rattle.aec.proofs.LawsContexts.{Predicts, pair-predicts}
 use Rattle.aec.proofs.LawsSteps.{first-held, step-is}
 use borrow.Author.Needs.{needs}
@@ -46,7 +47,7 @@ fine : (c : tie.After-enum-told) → let a = c .before .before .before .before .
 fine c = ap checkedSays (sym (c .enum-told .given .1)) ∙ first (c .before .before)
 
 good : (c : tie.After-enum-told) → let a = c .before .before .before .before .before .args in (goodContext (a .a) ≡ true) × (goodContext (a .b) ≡ true)
-good c = both _ _ (first-held _ _ _ _ (sym (fine c)) .2)
+good c = and-true _ _ (first-held _ _ _ _ (sym (fine c)) .2)
 
 pair-requires : tie.Need-pair-requires
 pair-requires c κs = good c
