@@ -3,18 +3,17 @@ use Prim.Native.Nat.{ℕ, zero, suc, _+_, _-_, _*_, _/_, _%_, _^_, _≤_, _<_, m
 use mathlib.Core.Path.{_≡_, refl, sym, ap, _∙_}
 use mathlib.Core.List.{List, [], _∷_, _++_}
 use native.Mathlib.Omega.{arith}
-use native.Mathlib.Numerals.{add-one}
 use native.Mathlib.Nat.{mod-lt, pow-suc, div-one, div-div-eq-div-mul}
 use borrow.Author.Tests.{le-leb, lt-leb, leb-true, leb-false}
 use lib.Dec.{leb}
 use lib.ListN.{length, getD, take, drop, length-append, length-take, length-drop, drop-of-length-le, List·getD-append}
-use lib.Seq.{drop-cons, drop-drop, getD-take, getD-append-add}
+use lib.Seq.{drop-drop, getD-take, getD-append-add}
 use Rattle.bits.specs.Lists.{All}
 use Rattle.bits.specs.Bits.{bitsIn, bitsOf, payload, bitAt, readOn, readAt}
 use Rattle.bits.specs.declared.Bit.{Bit}
 use Rattle.bits.specs.declared.Bit.the-variants as bit
 use Rattle.bits.specs.declared.Read.the-variants as read
-use Rattle.bits.proofs.Lists.{all-append, all-drop, all-take, by-test}
+use Rattle.bits.proofs.Lists.{all-append, all-drop, all-take, at-head, by-test}
 
 -- ── the bits of numbers and bytes ──
 
@@ -79,7 +78,7 @@ pub payload-bit : (s : List ℕ) (count place : ℕ) → place < count → place
 payload-bit s count place h k =
     let l = length-payload s count in
     let b = getD-take count (bitsOf s) place 0 h ∙ bit-of s place (omega arith) in
-    rw (drop-cons (payload s count) place 0 (omega arith), b, add-one)
+    rw (at-head (payload s count) place 0 (omega arith), b)
 
 -- ── one bit ──
 
@@ -151,6 +150,16 @@ read-end value width k at l h e = let w : width - k ≡ suc (width - (k + 1)) = 
 -- a read that is not refused for its width has a width of at most 32
 pub not-wide : (l : List ℕ) (place width : ℕ) → (readAt l place width ≡ read.TooWide → ⊥) → width ≤ 32
 not-wide l place width h = by-test (leb width 32) (leb-true width 32) (λ f. absurd (h (read-wide l place width (leb-false width 32 f))))
+
+-- and the other way: it is refused for its width alone
+on-narrow : (acc width : ℕ) (l : List ℕ) → readOn acc width l ≡ read.TooWide → ⊥
+unfolding readOn
+on-narrow acc zero l e = let z : _≡_ {A = ℕ} 0 1 = cc in omega arith
+on-narrow acc (suc width) [] e = let z : _≡_ {A = ℕ} 0 1 = cc in omega arith
+on-narrow acc (suc width) (b ∷ l) e = on-narrow (acc * 2 + b) width l e
+
+pub never-wide : (l : List ℕ) (place width : ℕ) → width ≤ 32 → readAt l place width ≡ read.TooWide → ⊥
+never-wide l place width h e = on-narrow 0 width (drop place l) (sym (read-fits l place width h) ∙ e)
 
 -- what was read writes the bits that it was read from, after those of `acc`
 pub read-writes : (acc w n : ℕ) (l : List ℕ) → All Binary l → readOn acc w l ≡ read.Value n → (take w l ≡ bitsIn w n) × (n / 2 ^ w ≡ acc)

@@ -1,12 +1,15 @@
--- The laws of `All` and of tests: a case split that keeps its equation, and a rule proved by one computed test.
-use Prim.Native.Nat.{ℕ, zero, suc, _<_}
+-- The laws of `All`, of what is left of a list at a place, and of tests: a case split that keeps its equation, and a rule proved
+-- by one computed test.
+use Prim.Native.Nat.{ℕ, zero, suc, _+_, _<_}
 use mathlib.Core.Path.{_≡_, refl, sym, ap, _∙_}
 use mathlib.Core.List.{List, [], _∷_, _++_}
 use mathlib.Core.Bool.{Bool, true, false, _&&_, Bool·beq, false≢true}
 use native.Mathlib.Omega.{arith}
+use native.Mathlib.Numerals.{add-one}
 use borrow.Author.Tests.{eqb-true, eqb-false}
 use lib.Dec.{eqb}
-use lib.ListN.{take, drop}
+use lib.ListN.{length, getD, take, drop}
+use lib.Seq.{drop-cons}
 use Rattle.bits.specs.Lists.{All}
 
 pub all-append : {A : Type 0} (P : A → Type 0) (l m : List A) → All P l → All P m → All P (l ++ m)
@@ -32,6 +35,10 @@ all-take P zero l h = tt
 all-take P (suc n) [] h = h
 all-take P (suc n) (x ∷ l) h = (h .0, all-take P n l (h .1))
 
+-- the element at a place heads what is left there
+pub at-head : {A : Type 0} (l : List A) (i : ℕ) (d : A) → i < length l → drop i l ≡ getD l i d ∷ drop (i + 1) l
+at-head l i d h = rw add-one (drop-cons l i d h)
+
 pub by-test {ℓ} : {P : Type ℓ} (t : Bool) → (t ≡ true → P) → (t ≡ false → P) → P
 by-test true yes-case no-case = yes-case refl
 by-test false yes-case no-case = no-case refl
@@ -39,10 +46,6 @@ by-test false yes-case no-case = no-case refl
 -- a test does not come out both ways
 pub contrary : {P : Type 0} (t : Bool) → t ≡ true → t ≡ false → P
 contrary t e f = absurd (false≢true (sym f ∙ e))
-
-pub and-false : (a : Bool) → a && false ≡ false
-and-false true = refl
-and-false false = refl
 
 pub and-true : (a b : Bool) → a && b ≡ true → (a ≡ true) × (b ≡ true)
 and-true true b e = (refl, e)

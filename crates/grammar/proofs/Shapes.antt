@@ -3,7 +3,7 @@ use Prim.Native.Nat.{ℕ, _≤_, _<_}
 use mathlib.Core.Path.{_≡_, refl, sym, _∙_, ap, subst}
 use mathlib.Core.Logic.{_≢_, _⊎_, inl, inr, _↔_}
 use mathlib.Core.List.{List, [], _∷_, _++_, map, map-append, append-nil}
-use mathlib.Core.Bool.{Bool, true, false, _&&_, _||_}
+use mathlib.Core.Bool.{Bool, true, false, _&&_, _||_, and-false}
 use native.Mathlib.Omega.{arith}
 use lib.Dec.{eqb, leb, ltb}
 use borrow.Author.Tests.{eqb-true, ltb-true, ltb-false, lt-ltb, le-leb, lt-leb, ne-eqb}
@@ -11,7 +11,7 @@ use Rattle.answers.specs.Answers.{Outcome, done, refused, UNKNOWN}
 use Rattle.bits.specs.Bits.{bitsIn, bitsOf, readOn, readAt}
 use Rattle.bits.specs.Lists.{All}
 use Rattle.bits.specs.declared.Read.the-variants.{Value}
-use Rattle.bits.proofs.Lists.{by-test, and-false, at-each, all-append}
+use Rattle.bits.proofs.Lists.{by-test, at-each, all-append}
 use Rattle.startcode.specs.Kinds.{Codes, kindIn, kinds, kindOf}
 use Rattle.startcode.specs.declared.Kind.{Kind}
 use Rattle.startcode.specs.declared.Kind.the-variants as kind

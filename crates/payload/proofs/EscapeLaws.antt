@@ -2,7 +2,7 @@
 use Prim.Native.Nat.{ℕ, zero, suc, _+_, _-_, _*_, _/_, _%_, _^_, _≤_, _<_}
 use mathlib.Core.Path.{_≡_, refl, sym, ap, _∙_}
 use mathlib.Core.List.{List, [], _∷_, _++_, append-assoc, append-nil}
-use mathlib.Core.Bool.{true, cond, _&&_}
+use mathlib.Core.Bool.{true, cond, _&&_, and-false}
 use native.Mathlib.Omega.{arith}
 use native.Mathlib.Numerals.{add-one}
 use native.Mathlib.Nat.{pow-suc}
@@ -10,16 +10,16 @@ use lib.Bits.{and-mask, bitAnd}
 use lib.Dec.{eqb, leb}
 use lib.ListN.{length, getD, take, drop, set, length-append, length-set, drop-of-length-le, take-append-drop}
 use lib.Pow.{shl-lt, shl-exact}
-use lib.Seq.{take-suc, take-all, take-suc-set, drop-set-lt, drop-drop, drop-cons, length-take-le, set-split}
+use lib.Seq.{take-suc, take-all, take-suc-set, drop-set-lt, drop-drop, length-take-le, set-split}
 use borrow.Author.Tests.{le-leb, lt-ltb, le-ltb}
 use Rattle.answers.specs.Answers.{done, refused, FULL, TOO-LONG}
 use Rattle.answers.specs.Limits.{longestPayload}
 use Rattle.bits.specs.Bits.{bitsIn, packOn, pack}
-use Rattle.bits.proofs.Lists.{by-test, and-false}
+use Rattle.bits.proofs.Lists.{at-head, by-test}
 use Rattle.bits.proofs.Laws.{length-in, bit-in}
 use Rattle.bits.proofs.Packing.{pack-more, pack-full, pack-none, pack-last}
 use Rattle.payload.specs.Escape.{kept, copied, unescaped, removal}
-use Rattle.payload.specs.Inside.{Partial, Pushed, Copied}
+use Rattle.payload.specs.Inside.{keptWidth, Partial, Pushed, Copied}
 use Rattle.payload.specs.declared.Packer.{Packer}
 
 -- ── one bit is pushed ──
@@ -106,9 +106,6 @@ abbrev pub zeroRun : List ℕ → ℕ
 zeroRun [] = 0
 zeroRun (b ∷ l) = cond (eqb b 0) (zeroRun l + 1) 0
 
-abbrev pub keptWidth : ℕ → ℕ → ℕ
-keptWidth zeros byte = cond (leb 2 zeros && eqb byte 2) 6 8
-
 pub width-is : (zeros byte : ℕ) → (6 ≤ keptWidth zeros byte) × (keptWidth zeros byte % 2 ≡ 0) × (keptWidth zeros byte ≤ 8)
 width-is zeros byte = by-test (leb 2 zeros && eqb byte 2) (λ t. rw t (omega arith, refl, omega arith)) (λ f. rw f (omega arith, refl, omega arith))
 
@@ -134,7 +131,7 @@ kept-width (b ∷ a ∷ before) byte =
 copied-cons : (before raw : List ℕ) (i : ℕ) → i < length raw →
     copied before (drop i raw) ≡ kept before (getD raw i 0) ++ copied (getD raw i 0 ∷ before) (drop (i + 1) raw)
 unfolding copied
-copied-cons before raw i h = let e : drop i raw ≡ getD raw i 0 ∷ drop (i + 1) raw = rw add-one (drop-cons raw i 0 h) in rw e
+copied-cons before raw i h = rw (at-head raw i 0 h)
 
 -- what holds at the loop's head: what is pushed and what is still to come make the whole
 pub record Copying (raw out₀ out : List ℕ) (p : Packer) (zeros i : ℕ) : Type 0 where

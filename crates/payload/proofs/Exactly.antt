@@ -15,6 +15,7 @@ use Rattle.answers.proofs.Outcomes.{not-done, undone}
 use Rattle.bits.proofs.Laws.{Binary, all-in}
 use Rattle.bits.proofs.Main.{unpacked}
 use Rattle.payload.specs.Escape.{kept, copied, unescaped, removal, outputAfter, removedSays}
+use Rattle.payload.specs.Inside.{keptWidth}
 use Rattle.payload.specs.Golomb.{Numbered, golombSays, signedSays}
 use Rattle.payload.specs.declared.Removed.{Removed}
 use Rattle.payload.specs.declared.Removed.the-variants as removed
@@ -22,7 +23,7 @@ use Rattle.payload.specs.declared.Golomb.{Golomb}
 use Rattle.payload.specs.declared.Golomb.the-variants as unsigned
 use Rattle.payload.specs.declared.SignedGolomb.{SignedGolomb}
 use Rattle.payload.specs.declared.SignedGolomb.the-variants as signed
-use Rattle.payload.proofs.EscapeLaws.{kept-width, keptWidth, zeroRun}
+use Rattle.payload.proofs.EscapeLaws.{kept-width, zeroRun}
 
 -- ── what removal wrote ──
 

@@ -11,13 +11,13 @@ use lib.ListN.{length, take, drop, replicate, replicate-append-replicate, take-a
 use lib.Seq.{drop-drop, take-append-seam}
 use Rattle.answers.specs.Answers.{Outcome, done, refused, mapDone, VALUE, TOO-LONG, PAYLOAD-OUT}
 use Rattle.answers.specs.Limits.{longestPayload}
-use Rattle.bits.specs.Bits.{bitsIn, payload, readOn, readAt}
+use Rattle.bits.specs.Bits.{bitsIn, payload, readAt}
 use Rattle.bits.specs.Lists.{All}
 use Rattle.bits.specs.declared.Read.{Read}
 use Rattle.bits.specs.declared.Read.the-variants as read
 use Rattle.bits.proofs.Lists.{by-test, all-drop}
 use Rattle.answers.proofs.Outcomes.{not-done, done-one, other-number}
-use Rattle.bits.proofs.Laws.{Binary, all-payload, length-in, read-fits}
+use Rattle.bits.proofs.Laws.{Binary, all-payload, length-in, never-wide}
 use Rattle.bits.proofs.Main.{read-exactly, missing-exactly}
 use Rattle.payload.specs.Golomb.{Numbered, withSign, Coded, TooManyZeros, EndsFirst}
 use Rattle.payload.specs.Reader.{zerosOn, numberOf, golombAfter, golomb, signedGolomb}
@@ -74,13 +74,6 @@ thirty-two : (n : ℕ) → 31 < n → replicate {A = ℕ} n 0 ≡ replicate 32 0
 thirty-two n h =
     let p : n ≡ 32 + (n - 32) = omega arith in
     ap (λ (k : ℕ). replicate {A = ℕ} k 0) p ∙ sym (replicate-append-replicate 32 (n - 32) 0)
-
--- a read of at most 32 bits is never too wide
-never-wide : (acc w : ℕ) (l : List ℕ) → readOn acc w l ≡ read.TooWide → ⊥
-unfolding readOn
-never-wide acc zero l e = let z : _≡_ {A = ℕ} 0 1 = cc in omega arith
-never-wide acc (suc w) [] e = let z : _≡_ {A = ℕ} 0 1 = cc in omega arith
-never-wide acc (suc w) (b ∷ l) e = never-wide (acc * 2 + b) w l e
 
 -- ── the answer, by how the bits begin ──
 
@@ -153,7 +146,7 @@ module _ (bytes : List ℕ) (count place : ℕ) where
       let d = ap length (after-code z rest e) in
       let l = length-drop (place + z + 1) bits in
       absurd (omega arith)
-  suffix z rest h e k read.TooWide q = absurd (never-wide 0 z (drop (place + z + 1) bits) (sym (read-fits bits (place + z + 1) z (omega arith)) ∙ q))
+  suffix z rest h e k read.TooWide q = absurd (never-wide bits (place + z + 1) z (omega arith) q)
 
   begins-from : (n : ℕ) → (drop place bits ≡ replicate n 0) ⊎ ((rest : List ℕ) × (drop place bits ≡ replicate n 0 ++ (1 ∷ rest))) → Begins
   begins-from n (inl e) =

@@ -2,10 +2,16 @@
 use Prim.Native.Nat.{ℕ, _+_, _*_, _%_, _^_, _≤_, _<_}
 use mathlib.Core.Path.{_≡_}
 use mathlib.Core.List.{List, [], _++_}
+use mathlib.Core.Bool.{cond, _&&_}
+use lib.Dec.{leb, eqb}
 use lib.ListN.{length, take, drop}
 use Rattle.bits.specs.Bits.{packOn, pack}
 use Rattle.payload.specs.Escape.{unescaped}
 use Rattle.payload.specs.declared.Packer.{Packer}
+
+-- how many bits stay of a byte after so many raw bytes 00
+abbrev pub keptWidth : ℕ → ℕ → ℕ
+keptWidth zeros byte = cond (leb 2 zeros && eqb byte 2) 6 8
 
 -- a packer's bits of a byte that is not full yet
 pub record Partial (p : Packer) : Type 0 where

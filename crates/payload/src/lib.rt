@@ -2,17 +2,17 @@
 use bits::Bit;
 use bits::Read;
 ghost use mathlib.Core.Path.{_≡_};
-ghost use mathlib.Core.Bool.{cond, _&&_};
+ghost use mathlib.Core.Bool.{cond};
 ghost use mathlib.Core.List.{[], _++_};
 ghost use Prim.Native.Nat.{_+_, _*_, _≤_, _<_};
-ghost use lib.Dec.{leb, eqb};
+ghost use lib.Dec.{eqb};
 ghost use lib.ListN.{length, getD, take, drop};
 ghost use Rattle.answers.specs.Limits.{longestPayload};
 ghost use Rattle.bits.specs.Bits.{bitsIn, packOn, payload};
 ghost use Rattle.payload.specs.Escape.{removal, outputAfter, removedSays};
 ghost use Rattle.payload.specs.Golomb.{golombSays, standsFor, signedSays};
 ghost use Rattle.payload.specs.Reader.{zerosOn, golomb, signedGolomb};
-ghost use Rattle.payload.specs.Inside.{Partial, Pushable, Pushed, Copied};
+ghost use Rattle.payload.specs.Inside.{keptWidth, Partial, Pushable, Pushed, Copied};
 
 // The most bytes of a payload.
 const LIMIT: usize = 65536;
@@ -78,7 +78,7 @@ fn push_bits(out: &mut [u8], p: Packer, byte: u8, width: u32) -> Packer
 
 // How many bits stay of a byte after so many raw bytes 00.
 fn kept_width(zeros: usize, byte: u8) -> u32
-    ensures { λ r. ⌜ r ≡ cond (leb 2 zeros && eqb byte 2) 6 8 ⌝ }
+    ensures { λ r. ⌜ r ≡ keptWidth zeros byte ⌝ }
 {
     if zeros < 2 {
         return 8;

@@ -4,12 +4,11 @@ use mathlib.Core.Path.{_≡_, refl, sym, ap, _∙_}
 use mathlib.Core.List.{List, [], _∷_}
 use mathlib.Core.Bool.{true, false, _&&_}
 use native.Mathlib.Omega.{arith}
-use native.Mathlib.Numerals.{add-one}
 use lib.Dec.{leb, eqb}
 use lib.ListN.{length, getD, take, drop, length-take, length-drop, drop-of-length-le}
-use lib.Seq.{drop-cons, getD-drop}
+use lib.Seq.{getD-drop}
 use borrow.Author.Tests.{lt-leb, leb-true, eq-eqb}
-use Rattle.bits.proofs.Lists.{by-test}
+use Rattle.bits.proofs.Lists.{at-head, by-test}
 use Rattle.startcode.specs.Prefix.{begins, before, nextPrefix}
 
 -- ── kinds ──
@@ -52,10 +51,6 @@ pub search-start : (s : List ℕ) (from : ℕ) → nextPrefix s from ≡ min fro
 unfolding nextPrefix
 search-start s from = rw length-take
 
--- an element at a place heads what is left there
-at-head : (s : List ℕ) (i : ℕ) → i < length s → drop i s ≡ getD s i 0 ∷ drop (i + 1) s
-at-head s i h = rw add-one (drop-cons s i 0 h)
-
 pub before-hit : (a : ℕ) (t : List ℕ) → begins (a ∷ t) ≡ true → before (a ∷ t) ≡ 0
 unfolding before
 before-hit a t e = simp e
@@ -66,14 +61,14 @@ before-miss a t e = simp e
 
 pub search-hit : (s : List ℕ) (i : ℕ) → i < length s → begins (drop i s) ≡ true → min i (length s) + before (drop i s) ≡ i
 search-hit s i h e =
-    let d = at-head s i h in
+    let d = at-head s i 0 h in
     let b : before (drop i s) ≡ 0 = ap before d ∙ before-hit _ _ (sym (ap begins d) ∙ e) in
     omega arith
 
 pub search-step : (s : List ℕ) (i : ℕ) → i < length s → begins (drop i s) ≡ false →
     min i (length s) + before (drop i s) ≡ min (i + 1) (length s) + before (drop (i + 1) s)
 search-step s i h e =
-    let d = at-head s i h in
+    let d = at-head s i 0 h in
     let b : before (drop i s) ≡ suc (before (drop (i + 1) s)) = ap before d ∙ before-miss _ _ (sym (ap begins d) ∙ e) in
     omega arith
 

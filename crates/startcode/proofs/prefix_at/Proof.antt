@@ -1,12 +1,11 @@
 -- Each early return is one test of `begins` that fails.
 use Prim.Native.Nat.{_+_}
 use mathlib.Core.Path.{_≡_, sym, ap, _∙_}
-use mathlib.Core.Bool.{_&&_}
+use mathlib.Core.Bool.{_&&_, and-false}
 use native.Mathlib.Omega.{arith}
 use borrow.Author.Needs.{needs}
 use borrow.Author.Tests.{ne-eqb}
 use lib.ListN.{length, getD, drop, length-drop}
-use Rattle.bits.proofs.Lists.{and-false}
 use Rattle.startcode.proofs.Laws.{begins-at, begins-third, begins-short}
 use Rattle.startcode.proofs.prefix_at.Statement.{statement}
 use Rattle.startcode.proofs.prefix_at.Tie as tie
