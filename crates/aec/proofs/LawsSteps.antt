@@ -21,6 +21,7 @@ use Rattle.aec.specs.declared.Split.{Split}
 use Rattle.aec.specs.declared.Prediction.{Prediction}
 use Rattle.aec.specs.declared.Refusal.{Refusal}
 use Rattle.aec.specs.Says.{refusalSays}
+use Rattle.aec.specs.Inside.{SplitRanges}
 use Rattle.answers.proofs.Outcomes.{stops, goes, came}
 use Rattle.aec.proofs.LawsRanges.{chosen}
 use Rattle.aec.proofs.LawsShifts.{taken}
@@ -81,11 +82,6 @@ split-fits x q h = simp (le-leb _ _ h)
 pub split-over : (x : State) (q : ℕ) → x .rt < q → record { s = x .rs + 1; t = 256 + x .rt - q; range = x .rt + q } ≡ splitOf x q
 unfolding splitOf
 split-over x q h = simp (lt-leb _ _ h)
-
-pub record SplitRanges (y : Split) : Type 0 where
-  pub t : y .t ≤ 255
-  pub low : 1 ≤ y .range
-  pub high : y .range < 512
 
 pub split-ranges : (x : State) (q : ℕ) → x .rt ≤ 255 → 1 ≤ q → q ≤ 255 → SplitRanges (splitOf x q)
 unfolding splitOf

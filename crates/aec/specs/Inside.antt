@@ -1,8 +1,9 @@
 -- What the private functions promise one another; no part of document 01.
-use Prim.Native.Nat.{ℕ}
+use Prim.Native.Nat.{ℕ, _≤_, _<_}
 use Rattle.answers.specs.Answers.{Outcome, done}
 use Rattle.aec.specs.Says.{refusalSays}
 use Rattle.aec.specs.declared.Shift.{Shift}
+use Rattle.aec.specs.declared.Split.{Split}
 use Rattle.aec.specs.declared.Checked.{Checked}
 use Rattle.aec.specs.declared.Checked.the-variants as checked
 use Rattle.aec.specs.declared.Doubled.{Doubled}
@@ -22,3 +23,9 @@ doubledSays (doubled.Refused r) = refusalSays r
 abbrev pub shiftedSays : Shifted → Outcome Shift
 shiftedSays (shifted.Done z) = done z
 shiftedSays (shifted.Refused r) = refusalSays r
+
+-- the ranges of t and R
+pub record SplitRanges (y : Split) : Type 0 where
+  pub t : y .t ≤ 255
+  pub low : 1 ≤ y .range
+  pub high : y .range < 512

@@ -11,7 +11,7 @@ ghost use Rattle.aec.specs.Bins.{splitOf, missesOf, remainderOf, unpredi
 ghost use Rattle.aec.specs.Bins.{pairOf, plainOf, bypassOf, stuffingOf, decodeOf, decodePairOf};
 ghost use Rattle.aec.specs.Bins.{rateOf, gainOf, nextLg, nextCycno, updateOf};
 ghost use Rattle.aec.specs.Says.{startedSays, steppedSays, decodedSays, decodedPairSays};
-ghost use Rattle.aec.specs.Inside.{checkedSays, doubledSays, shiftedSays};
+ghost use Rattle.aec.specs.Inside.{checkedSays, doubledSays, shiftedSays, SplitRanges};
 use bits::Bit;
 use bits::Read;
 
@@ -279,7 +279,7 @@ pub fn start(bytes: &[u8], count: usize) -> Started
 // s, t and R, by whether rT reaches q.
 fn split_range(x: State, lg: u32) -> Split
     requires { ⌜ (x .rs ≤ mostBits) × (x .rt ≤ 255) × (4 ≤ lg) × (lg ≤ 1023) ⌝ }
-    ensures { λ r. ⌜ (r ≡ splitOf x (lg / 4)) × (r .t ≤ 255) × (1 ≤ r .range) × (r .range < 512) ⌝ }
+    ensures { λ r. ⌜ (r ≡ splitOf x (lg / 4)) × SplitRanges r ⌝ }
 {
     let q = lg / 4;
     if q <= x.rt {
@@ -322,7 +322,7 @@ fn remainder(bytes: &[u8], count: usize, x: State, y: Split) -> Doubled
 
 // The state after a bin that was not predicted.
 fn unpredicted(bytes: &[u8], count: usize, x: State, y: Split) -> Started
-    requires { ⌜ (length (now bytes) ≤ longestPayload) × (goodState (length (payload (now bytes) count)) x ≡ true) × (missesOf x y ≡ true) × (y .t ≤ 255) × (1 ≤ y .range) × (y .range < 512) ⌝ }
+    requires { ⌜ (length (now bytes) ≤ longestPayload) × (goodState (length (payload (now bytes) count)) x ≡ true) × (missesOf x y ≡ true) × SplitRanges y ⌝ }
     ensures { λ r. ⌜ startedSays r ≡ unpredictedOf (payload (now (bytes .entry)) count) x y ⌝ }
 {
     match remainder(bytes, count, x, y) {
@@ -336,7 +336,7 @@ fn unpredicted(bytes: &[u8], count: usize, x: State, y: Split) -> Started
 
 // One bin, of a state within its ranges. Its callers split the range: that leaves it small enough to be inlined into each.
 fn step(bytes: &[u8], count: usize, x: State, p: u32, y: Split) -> Stepped
-    requires { ⌜ (length (now bytes) ≤ longestPayload) × (goodState (length (payload (now bytes) count)) x ≡ true) × (p ≤ 1) × (y .t ≤ 255) × (1 ≤ y .range) × (y .range < 512) ⌝ }
+    requires { ⌜ (length (now bytes) ≤ longestPayload) × (goodState (length (payload (now bytes) count)) x ≡ true) × (p ≤ 1) × SplitRanges y ⌝ }
     ensures { λ r. ⌜ steppedSays r ≡ binOf (payload (now (bytes .entry)) count) x p y ⌝ }
 {
     if misses(x, y) {

@@ -54,7 +54,7 @@ step-requires : tie.Need-step-requires
 step-requires c κs =
     let h = first-held _ _ _ _ (sym (fine (c .before))) in
     let y = c .split-range .ensures in
-    (h .0, h .1, context-ranges _ (h .2) .mps, y .1, y .2, y .3)
+    (h .0, h .1, context-ranges _ (h .2) .mps, y .1)
 
 enum-known-bin : tie.Need-enum-known-bin
 enum-known-bin c = search needs

@@ -31,7 +31,7 @@ step-requires : tie.Need-step-requires
 step-requires c κs =
     let h = first-held _ _ _ _ (sym (fine (c .before))) in
     let y = c .split-range .ensures in
-    (h .0, h .1, omega arith, y .1, y .2, y .3)
+    (h .0, h .1, omega arith, y .1)
 
 enum-known-r : tie.Need-enum-known-r
 enum-known-r c = search needs

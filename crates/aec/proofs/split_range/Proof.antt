@@ -6,7 +6,7 @@ use Rattle.aec.proofs.split_range.Statement.{statement}
 use Rattle.aec.proofs.split_range.Tie as tie
 
 returns : tie.Need-returns
-returns c = (split-fits _ _ (c .before .if1 .taken), omega arith, omega arith, omega arith)
+returns c = (split-fits _ _ (c .before .if1 .taken), record { t = omega arith; low = omega arith; high = omega arith })
 
 add-t6 : tie.Need-add-t6
 add-t6 c = search needs
@@ -21,7 +21,7 @@ add-t9 : tie.Need-add-t9
 add-t9 c = search needs
 
 returns-2 : tie.Need-returns-2
-returns-2 c = (split-over _ _ (c .before .before .before .if1 .left), omega arith, omega arith, omega arith)
+returns-2 c = (split-over _ _ (c .before .before .before .if1 .left), record { t = omega arith; low = omega arith; high = omega arith })
 
 pub split-range-spec : {M : Type 1} → statement M
 split-range-spec = tie.close (tie.spec returns add-t6 add-t7 sub-t8 add-t9 returns-2)

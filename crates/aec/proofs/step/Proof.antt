@@ -12,7 +12,7 @@ misses-requires c κs = search needs
 unpredicted-requires : tie.Need-unpredicted-requires
 unpredicted-requires c κs =
     let e = c .before .before .before .pre in
-    (e .0, e .1, sym (c .before .misses .ensures) ∙ c .if1 .taken, e .3, e .4, e .5)
+    (e .0, e .1, sym (c .before .misses .ensures) ∙ c .if1 .taken, e .3)
 
 enum-known-z : tie.Need-enum-known-z
 enum-known-z c = search needs

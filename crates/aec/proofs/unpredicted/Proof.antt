@@ -33,7 +33,7 @@ abbrev settling : tie.Start → ℕ × ℕ → Shift → Outcome State
 settling e v z = settleOf (bits e) (z .beside % 256) (z .value) (z .place)
 
 remainder-requires : tie.Need-remainder-requires
-remainder-requires c κs = let e = c .before in let r = ranges e in (r .vt, e .pre .3, e .pre .2)
+remainder-requires c κs = let e = c .before in let r = ranges e in (r .vt, e .pre .3 .t, e .pre .2)
 
 enum-known-value : tie.Need-enum-known-value
 enum-known-value c = search needs
@@ -54,7 +54,7 @@ module _ (c : tie.After-known-told) where
       remainder-within (bits entry) (entry .args .x) (entry .args .y) value (all-payload (entry .args .bytes .now) (entry .args .count)) (r .vt) (r .place) (sym remains)
 
 widen-requires : tie.Need-widen-requires
-widen-requires c κs = let w = within c in let p = entry c .pre in (p .0, w .2, omega arith, p .5)
+widen-requires c κs = let w = within c in let p = entry c .pre in (p .0, w .2, omega arith, p .3 .high)
 
 enum-known-z : tie.Need-enum-known-z
 enum-known-z c = search needs
@@ -75,7 +75,7 @@ settle-requires c κs =
     let e = entry k in
     let p = e .pre in
     let w = within k in
-    let h = widened (bits e) _ _ _ (shift c) (all-payload (e .args .bytes .now) (e .args .count)) (w .2) (omega arith) (p .5) (sym (wide c)) in
+    let h = widened (bits e) _ _ _ (shift c) (all-payload (e .args .bytes .now) (e .args .count)) (w .2) (omega arith) (p .3 .high) (sym (wide c)) in
     (p .0, h .3, omega arith)
 
 enum-known-r : tie.Need-enum-known-r
