@@ -99,8 +99,10 @@ struct Prediction {
     lg: u32,
 }
 
-// The most bytes of a payload, and their bits.
+// The most bytes of a payload.
 const LIMIT: usize = 65536;
+
+// The most bits of a payload.
 const MOST_BITS: u32 = 524288;
 
 // A fresh context.
