@@ -1,11 +1,11 @@
 -- The front page: the marks that stand where a refusal has no number and no bin are no answer's number and no answer's bin.
-use Prim.Native.Nat.{ℕ, zero, suc, _+_, _/_, _%_, _<_}
+use Prim.Native.Nat.{ℕ, zero, suc, _+_, _/_, _%_, _≤_, _<_}
 use mathlib.Core.Path.{_≡_, refl, ap, _∙_}
 use mathlib.Core.Logic.{_≢_}
 use mathlib.Core.List.{List}
 use mathlib.Core.Bool.{Bool, true, false, cond}
 use native.Mathlib.Omega.{arith}
-use lib.Dec.{eqb}
+use lib.Dec.{eqb, leb→le}
 use lib.IntN.{ℤ, pos, negsuc, negℤ}
 use Rattle.answers.specs.Answers.{Outcome, done, refused, mapDone}
 use Rattle.answers.proofs.Outcomes.{not-done, done-one}
@@ -40,6 +40,11 @@ signed-small n h = halves (eqb (n % 2) 1)
     halves true = omega arith
     halves false = let e = below-minus (n / 2) in omega arith
 
+-- the mark is further below 0
+mark-far : 2147483648 ≤ below noSignedNumber
+unfolding below
+mark-far = leb→le 2147483648 (below noSignedNumber) tt
+
 -- the unsigned number behind a signed one
 unsigned : (o : Outcome (Numbered ℕ)) (m : Numbered ℤ) → mapDone withSign o ≡ done m → (n : Numbered ℕ) × (o ≡ done n) × (standsFor (n .number) ≡ m .number)
 unsigned (done n) m e = (n, refl, ap (λ k. k .number) (done-one e))
@@ -51,7 +56,7 @@ signed-marked bytes bits place m e z =
     let u = unsigned (golomb bytes bits place) m e in
     let h = signed-small (u .0 .number) (golomb-bound bytes bits place (u .0) (u .1)) in
     let k = ap below (u .2 ∙ z) in
-    let b = below-minus 2147483648 in
+    let far = mark-far in
     omega arith
 
 pub bypass-marked : (bytes : List ℕ) (bits : ℕ) (x : State) (bin : ℕ) (y : State) → bypassOf bytes bits x ≡ done (bin, y) → bin ≢ noBin

@@ -33,10 +33,11 @@ ghost use Rattle.layout.specs.Answers as bodies;
 ghost use Rattle.layout.specs.Reader as reader;
 ghost use Rattle.ratios.specs.Ratios.{frameRate, displayRatio};
 ghost use Rattle.grammar.specs.Reader.{filingInto};
-ghost use Rattle.filing.specs.Units as units;
-ghost use Rattle.filing.specs.Filing.{filed, wordsAfter};
+ghost use Rattle.filing.specs.Filing as filing;
+ghost use Rattle.filing.specs.Filing.{wordsAfter};
+ghost use Rattle.filing.specs.Reader.{filed};
 ghost use Rattle.rows.specs.Rows.{rowExists, existing};
-ghost use Rattle.groups.specs.Groups.{groupAt};
+ghost use Rattle.groups.specs.Reader.{groupAt};
 ghost use Rattle.payload.specs.Escape.{removal, outputAfter};
 ghost use Rattle.payload.specs.Reader.{golomb, signedGolomb};
 ghost use Rattle.aec.specs.Bins.{freshContext, startOf, bypassOf, stuffingOf, decodeOf, decodePairOf};
@@ -127,7 +128,7 @@ fn layout_number(why: layout::Reason) -> u32
 }
 
 fn filing_number(why: filing::Reason) -> u32
-    ensures { λ r. ⌜ r ≡ units.reasonNumber why ⌝ }
+    ensures { λ r. ⌜ r ≡ filing.reasonNumber why ⌝ }
 {
     match why {
         filing::Reason::NoCode => 1,
@@ -210,7 +211,7 @@ fn refused_body(why: layout::Reason) -> Answer
 }
 
 fn refused_stream(why: filing::Refusal) -> Answer
-    ensures { λ r. ⌜ r ≡ counted (refused (units.reasonNumber (why .reason)) (why .place ∷ [])) ⌝ }
+    ensures { λ r. ⌜ r ≡ counted (refused (filing.reasonNumber (why .reason)) (why .place ∷ [])) ⌝ }
 {
     let reason = why.reason;
     Answer {

@@ -1,22 +1,37 @@
--- The examples of document 01: one list, one statement.
-use mathlib.Core.Path.{refl}
+-- The examples of document 01, and its rules at their limits: each is one list under one statement.
+use mathlib.Core.Path.{_≡_, refl}
+use mathlib.Core.List.{List, [], _∷_, map}
 use Rattle.bits.specs.Bits.{bitsIn, bitsOf, bitAt, readOn, readAt, packOn}
 use Rattle.bits.specs.Lists.{All}
 use Rattle.startcode.specs.Kinds.{kindOf}
 use Rattle.startcode.specs.Prefix.{begins}
 use Rattle.layout.specs.Layouts.{fields, leastBytes, faultAt}
-use Rattle.layout.specs.Reader.{allows, valuesOf, judge, cross, judged, ended, reading, answerOf, recordOf, headerOf}
-use Rattle.layout.specs.Records.{headerRecord}
+use Rattle.layout.specs.Reader.{allows, valuesOf, judge, cross, judged, ended, reading, answerOf, recordOf, headerOf, plainOf, colouredOf, copyrightOf, ownerRules, displayShort, displayOf, byNumber, extensionResult, extensionOf}
+use Rattle.layout.specs.Extensions.{numbered, isOpaque}
+use Rattle.layout.specs.Records.{headerRecord, plainRecord, colouredRecord, copyrightRecord}
 use Rattle.layout.specs.Answers.{faultNumber}
+use Rattle.ratios.specs.Ratios.{entryOf, frameRate, displayRatio}
 use Rattle.macroblocks.specs.Macroblocks.{macroblockColumns, macroblockRows, slicesTested}
 use Rattle.grammar.specs.Rows.{rowLength}
-use Rattle.grammar.specs.Reader.{cut, step, fileFrom, filingOfAny, filing, filingInto}
+use Rattle.grammar.specs.Reader.{cut, step, walkFrom, walkOfAny, walk, filing, walkInto, filingInto}
+use Rattle.rows.specs.Rows.{heldRow, inStream, existing}
+use Rattle.groups.specs.Reader.{displayIn, groupIn, groupAt}
 use Rattle.payload.specs.Escape.{kept, copied, removal}
 use Rattle.payload.specs.Golomb.{standsFor}
 use Rattle.payload.specs.Reader.{zerosOn, golomb, signedGolomb}
-use Rattle.aec.specs.Bins.{goodState, goodContext, withinLimit, refusedFirst, doubleOf, shifts, startOf, splitOf, missesOf, remainderOf, unpredictedOf, stepOf, rateOf, nextCycno, nextLg, gainOf, foldOf, updateOf, decodeOf}
-use Rattle.examples.specs.Examples.{examples, Holds, bins}
+use Rattle.aec.specs.Bins.{goodState, goodContext, withinLimit, refusedFirst, doubleOf, shifts, startOf, splitOf, missesOf, remainderOf, unpredictedOf, stepOf, pairOf, rateOf, nextCycno, nextLg, gainOf, foldOf, updateOf, decodeOf, decodePairOf}
+use Rattle.examples.specs.Examples.{Example, examples, Holds, bins}
+use Rattle.examples.specs.Limits.{limits, writtenOn, bytesIn, changed}
+
+-- the answers and what the document says, each as a list: where these are equal, each example holds
+each : (es : List Example) → map (λ e. e .answer) es ≡ map (λ e. e .table) es → All Holds es
+each [] eq = tt
+each (e ∷ es) eq = (cc, each es cc)
 
 pub examples-hold : All Holds examples
-unfolding bitsIn bitsOf bitAt readOn readAt packOn kindOf begins fields leastBytes faultAt allows valuesOf judge cross judged ended reading headerRecord faultNumber answerOf recordOf headerOf macroblockColumns macroblockRows slicesTested rowLength cut step fileFrom filingOfAny filing filingInto kept copied removal zerosOn golomb standsFor signedGolomb goodState goodContext withinLimit refusedFirst doubleOf shifts startOf splitOf missesOf remainderOf unpredictedOf stepOf rateOf nextCycno nextLg gainOf foldOf updateOf decodeOf bins
-examples-hold = (refl, (refl, (refl, (refl, (refl, (refl, (refl, (refl, (refl, (refl, (refl, (refl, (refl, (refl, (refl, (refl, (refl, (refl, (refl, (refl, tt))))))))))))))))))))
+unfolding bitsIn bitsOf bitAt readOn readAt packOn kindOf begins fields leastBytes faultAt allows valuesOf judge cross judged ended reading headerRecord faultNumber answerOf recordOf headerOf macroblockColumns macroblockRows slicesTested rowLength isOpaque numbered cut step walkFrom walkOfAny walk filing walkInto filingInto kept copied removal zerosOn golomb standsFor signedGolomb goodState goodContext withinLimit refusedFirst doubleOf shifts startOf splitOf missesOf remainderOf unpredictedOf stepOf rateOf nextCycno nextLg gainOf foldOf updateOf decodeOf bins
+examples-hold = each examples refl
+
+pub limits-hold : All Holds limits
+unfolding bitsIn bitsOf bitAt readOn readAt packOn kindOf begins fields leastBytes faultAt allows valuesOf judge cross judged ended reading headerRecord faultNumber answerOf recordOf headerOf macroblockColumns macroblockRows slicesTested rowLength isOpaque numbered cut step walkFrom walkOfAny walk filing heldRow inStream existing displayIn groupIn groupAt kept copied removal zerosOn golomb standsFor signedGolomb goodState goodContext withinLimit refusedFirst doubleOf shifts startOf splitOf missesOf remainderOf unpredictedOf stepOf rateOf nextCycno nextLg gainOf foldOf updateOf decodeOf plainRecord colouredRecord copyrightRecord plainOf colouredOf copyrightOf ownerRules displayShort displayOf byNumber extensionResult extensionOf entryOf frameRate displayRatio pairOf decodePairOf writtenOn bytesIn changed
+limits-hold = each limits refl

@@ -6,6 +6,7 @@ use lib.IntN.{ℤ, pos, negℤ}
 use lib.ListN.{length}
 use Rattle.answers.specs.Answers.{Outcome, done, refused, mapDone, NO-CODE, CUT, VALUE, STUFFING, UNENDED, FULL, PAYLOAD-OUT, andThen}
 use Rattle.bits.specs.Lists.{All}
+use Rattle.startcode.specs.declared.Kind.{Kind}
 use Rattle.layout.specs.Reader.{headerOf}
 use Rattle.layout.specs.declared.SequenceHeader.{SequenceHeader}
 use Rattle.macroblocks.specs.Macroblocks.{macroblockColumns, macroblockRows}
@@ -17,22 +18,26 @@ use Rattle.aec.specs.Bins.{freshContext, startOf, decodeOf}
 use Rattle.aec.specs.declared.State.{State}
 use Rattle.aec.specs.declared.Context.{Context}
 
--- an answer, as numbers in document 01's order, or as one signed number
+-- an answer: numbers in document 01's order, one signed number, or the kind of a unit
 pub data Told : Type 0 where
   numbers : Outcome (List ℕ) → Told
   signed : Outcome ℤ → Told
+  kind : Outcome Kind → Told
 
 -- what the definitions answer, and what the table says
 pub record Example : Type 0 where
   pub answer : Told
   pub table : Told
 
-infix 80 _gives_ _stands-for_
+infix 80 _gives_ _stands-for_ _is-a_
 abbrev pub _gives_ : Outcome (List ℕ) → Outcome (List ℕ) → Example
 answer gives table = record { answer = numbers answer; table = numbers table }
 
 abbrev pub _stands-for_ : Outcome ℤ → ℤ → Example
 answer stands-for n = record { answer = signed answer; table = signed (done n) }
+
+abbrev pub _is-a_ : Outcome Kind → Outcome Kind → Example
+answer is-a table = record { answer = kind answer; table = kind table }
 
 -- ── streams ──
 

@@ -1,2 +1,3 @@
--- Document 01, "Table of proved examples".
+-- Document 01, "Table of proved examples", and its rules at their limits.
 pub mod Examples
+pub mod Limits

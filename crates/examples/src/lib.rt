@@ -1,1 +1,1 @@
-// The examples of document 01 are statements about definitions (specs/Examples.antt); there is no code.
+// The examples of document 01, and its rules at their limits, are statements about definitions (specs/); there is no code.

@@ -1,36 +1,40 @@
 -- What filing answers, in the grammar's words.
-use Prim.Native.Nat.{ℕ, zero, suc, _≤_, _<_, _+_, _*_}
-use mathlib.Core.Path.{_≡_, refl, sym, _∙_, ap, subst}
+use Prim.Native.Nat.{ℕ, _≤_, _<_, _*_}
+use mathlib.Core.Path.{_≡_, refl, sym, _∙_, ap}
 use mathlib.Core.Logic.{_↔_, _⊎_, inl, inr, _≢_}
-use mathlib.Core.List.{List, [], _∷_, _++_, map}
-use mathlib.Core.Bool.{Bool, true, false, cond, _&&_, not}
-use lib.Dec.{ltb, leb, eqb}
-use lib.ListN.{length, drop, length-map}
-use borrow.Author.Tests.{lt-ltb, le-ltb, ltb-true, ltb-false}
+use mathlib.Core.List.{List, [], _∷_, _++_}
+use mathlib.Core.Bool.{cond}
+use lib.Dec.{ltb, eqb}
+use lib.ListN.{length, drop}
+use borrow.Author.Tests.{lt-ltb, le-ltb, ltb-false}
 use native.Mathlib.Omega.{arith}
-use Rattle.answers.specs.Answers.{Outcome, done, refused, mapDone, NO-CODE, CUT, OVERLAP, UNKNOWN, SHORT, VALUE, STUFFING, TWICE, UNENDED, FULL, TOO-LONG}
-use Rattle.bits.specs.Lists.{All}
-use Rattle.bits.proofs.Lists.{by-test}
-use Rattle.answers.proofs.Outcomes.{not-done, not-refused, undone}
-use Rattle.layout.specs.Answers.{faultNumber}
-use Rattle.layout.specs.Reader.{headerResult, extensionResult, isDisplay, displayShort, displayOf, Result, allZero}
-use Rattle.answers.specs.Results.{good, bad}
-use Rattle.layout.specs.declared.Place.the-variants as place
-use Rattle.layout.specs.declared.Fault.the-variants as fault
-use Rattle.startcode.specs.Prefix.{begins}
-use Rattle.grammar.specs.Grammar.{StreamUnit, bytes, Reading, Reads, units}
-use Rattle.grammar.specs.Rows.{Row, Placed, rowsFrom, placedUnits, words, rows}
-use Rattle.grammar.specs.declared.SliceRule.{SliceRule}
-use Rattle.grammar.specs.declared.State.{State}
-use Rattle.grammar.specs.declared.State.the-variants.{Start, Head, Picture as InPicture, Slices, Ended, Closed}
-use Rattle.grammar.specs.Reader.{Step, go, stop, guard, choose, by, headExtension, pictureStep, sliceStep, endingStep, table, unknown, step, final, isNil, cut, addRow, continue, rowAt, fileFrom, filingOfAny, filing, filingInto, within}
+use Rattle.answers.specs.Answers.{Outcome, done, refused, OneToOne, FULL}
 use Rattle.answers.specs.Limits.{longestStream}
-use Rattle.grammar.proofs.Filing.{filed-iff, unitOf, units-of-placed}
-use Rattle.grammar.specs.Refusals.{RefusesInto}
-use Rattle.grammar.proofs.Refusals.{into-iff}
+use Rattle.answers.specs.Results.{good, bad, mapGood}
+use Rattle.answers.proofs.Outcomes.{undone}
+use Rattle.answers.proofs.Results.{not-good, not-bad, good-same, bad-same}
+use Rattle.bits.proofs.Lists.{by-test}
+use Rattle.layout.specs.Answers.{faultNumber}
+use Rattle.layout.specs.declared.Fault.{Fault}
+use Rattle.layout.specs.declared.Fault.the-variants as fault
+use Rattle.startcode.specs.declared.Kind.{Kind}
+use Rattle.startcode.specs.declared.Kind.the-variants as kind
+use Rattle.grammar.specs.Grammar.{StreamUnit, Reading, Reads, units}
+use Rattle.grammar.specs.Rows.{Row, Placed, placedUnits, rowsFrom, words, rows}
+use Rattle.grammar.specs.Reasons as inside
+use Rattle.grammar.specs.Reasons.{Numbered}
+use Rattle.grammar.specs.Reader.{Stopped, Walk, stopAt, walkOfAny, walk, said, within, walkInto, filingInto}
+use Rattle.grammar.specs.Refusals.{OfBody, OutOfOrder, order, row, BadHeadExtension, short, twice, fields, other, BreaksBody, Breaks, unknown, out-of-place, in-place, Stops, unended, cut, overlap, breaks, Refuses, too-long, no-code, in-unit, RefusesInto, refuses, full}
+use Rattle.grammar.specs.declared.Reason.{Reason as Inner}
+use Rattle.grammar.specs.declared.Reason.the-variants as inner
+use Rattle.grammar.proofs.Filing.{walked-iff, said-done}
+use Rattle.grammar.proofs.Refusals.{said-refused, said-iff, into-stopped-iff}
+use Rattle.grammar.proofs.RowLengths.{rows-length, units-length}
 use Rattle.grammar.proofs.Unique.{same-reading}
-use Rattle.filing.specs.Units.{reasonNumber}
-use Rattle.filing.specs.Filing.{totals, filed, wordsAfter, filingSays, ReadingOf, FiledByReading}
+use Rattle.filing.specs.Filing.{reasonNumber, totals, wordsAfter, filingSays, checkedSays, ReadingOf, FiledByReading}
+use Rattle.filing.specs.Reader.{filed}
+use Rattle.filing.specs.declared.Checked.{Checked}
+use Rattle.filing.specs.declared.Checked.the-variants as checked
 use Rattle.filing.specs.declared.FilingAnswer.{FilingAnswer}
 use Rattle.filing.specs.declared.FilingAnswer.the-variants as answer
 use Rattle.filing.specs.declared.Reason.{Reason}
@@ -41,39 +45,51 @@ use Rattle.filing.specs.declared.Totals.{Totals}
 -- ── the order of the tests ──
 
 module _ (s : List ℕ) where
-  pub filing-long : longestStream < length s → filing s ≡ refused TOO-LONG (0 ∷ [])
-  unfolding filing
-  filing-long h = rw (lt-ltb longestStream (length s) h)
+  pub walk-long : longestStream < length s → walk s ≡ stopAt inner.TooLong 0
+  unfolding walk
+  walk-long h = rw (lt-ltb longestStream (length s) h)
 
-  pub filing-short : length s ≤ longestStream → filing s ≡ filingOfAny s
-  unfolding filing
-  filing-short h = rw (le-ltb longestStream (length s) h)
+  pub walk-short : length s ≤ longestStream → walk s ≡ walkOfAny s
+  unfolding walk
+  walk-short h = rw (le-ltb longestStream (length s) h)
 
-  pub filing-done : (rs : List Row) → filing s ≡ done rs → (length s ≤ longestStream) × (filingOfAny s ≡ done rs)
-  unfolding filing
-  filing-done rs e = by-test (ltb longestStream (length s)) (λ t. not-done (rw t at e)) (λ f. (ltb-false longestStream (length s) f, rw f at e))
+  pub walk-good : (ms : List Placed) → walk s ≡ good ms → (length s ≤ longestStream) × (walkOfAny s ≡ good ms)
+  unfolding walk
+  walk-good ms e = by-test (ltb longestStream (length s)) (λ t. not-good (rw t at e)) (λ f. (ltb-false longestStream (length s) f, rw f at e))
 
 module _ (s : List ℕ) (lent : ℕ) where
-  pub into-refused : (n : ℕ) (carried : List ℕ) → filing s ≡ refused n carried → filingInto s lent ≡ refused n carried
-  unfolding filingInto
-  into-refused n carried e = ap (within lent) e
+  pub into-bad : (x : Stopped) → walk s ≡ bad x → walkInto s lent ≡ bad x
+  unfolding walkInto
+  into-bad x e = ap (within lent) e
 
-  pub into-full : (rs : List Row) → filing s ≡ done rs → lent < 3 * length rs → filingInto s lent ≡ refused FULL (0 ∷ [])
-  unfolding filingInto
-  into-full rs e k = ap (within lent) e ∙ rw (lt-ltb lent (3 * length rs) k)
+  pub into-full : (ms : List Placed) → walk s ≡ good ms → lent < 3 * length ms → walkInto s lent ≡ stopAt inner.Full 0
+  unfolding walkInto
+  into-full ms e k = ap (within lent) e ∙ rw (lt-ltb lent (3 * length ms) k)
 
-  pub into-done : (rs : List Row) → filing s ≡ done rs → 3 * length rs ≤ lent → filingInto s lent ≡ done rs
-  unfolding filingInto
-  into-done rs e k = ap (within lent) e ∙ rw (le-ltb lent (3 * length rs) k)
+  pub into-good : (ms : List Placed) → walk s ≡ good ms → 3 * length ms ≤ lent → walkInto s lent ≡ good ms
+  unfolding walkInto
+  into-good ms e k = ap (within lent) e ∙ rw (le-ltb lent (3 * length ms) k)
 
--- what a count says of the rows
-pub count-done : (o : Outcome (List Row)) (n : ℕ) → done n ≡ mapDone length o → (rs : List Row) × (o ≡ done rs) × (length rs ≡ n)
-count-done (done rs) n e = (rs, refl, cc)
-count-done (refused k c) n e = let z : _≡_ {A = ℕ} 0 1 = cc in absurd (omega arith)
+within-good : (lent : ℕ) (w : Walk) (ms : List Placed) → within lent w ≡ good ms → (w ≡ good ms) × (3 * length ms ≤ lent)
+within-good lent (good ns) ms e =
+    by-test (ltb lent (3 * length ns))
+    (λ t. not-good (rw t at e))
+    (λ f. let i : ns ≡ ms = good-same (rw f at e) in let k = ltb-false lent (3 * length ns) f in (ap good i, rw i at k))
+within-good lent (bad x) ms e = not-good e
 
-pub count-refused : (o : Outcome (List Row)) (n : ℕ) (carried : List ℕ) → refused n carried ≡ mapDone length o → o ≡ refused n carried
-count-refused (done rs) n carried e = let z : _≡_ {A = ℕ} 0 1 = cc in absurd (omega arith)
-count-refused (refused k c) n carried e = cc
+good-into : (s : List ℕ) (lent : ℕ) (ms : List Placed) → walkInto s lent ≡ good ms → (walk s ≡ good ms) × (3 * length ms ≤ lent)
+unfolding walkInto
+good-into s lent ms e = within-good lent (walk s) ms e
+
+-- ── what the first pass says ──
+
+pub said-count : (w : Walk) (n : ℕ) → good n ≡ mapGood length w → done n ≡ said length w
+said-count (good ms) n e = ap done (good-same e)
+said-count (bad x) n e = not-bad e
+
+pub said-stop : (w : Walk) (why : Inner) (at : ℕ) → stopAt why at ≡ mapGood length w → refused (inside.reasonNumber why) (at ∷ []) ≡ said length w
+said-stop (good ms) why at e = not-good e
+said-stop (bad x) why at e = ap (λ (x : Stopped). refused (inside.reasonNumber (x .reason)) (x .place ∷ [])) (bad-same e)
 
 -- ── answers and their numbers ──
 
@@ -99,160 +115,118 @@ reason-undone reason.Unended = refl
 reason-undone reason.Full = refl
 reason-undone reason.TooLong = refl
 
-pub filing-says-one : (a b : FilingAnswer) → filingSays a ≡ filingSays b → a ≡ b
-filing-says-one (answer.Filed t) (answer.Filed u) e = cc
-filing-says-one (answer.Filed t) (answer.Refused r) e = let z : _≡_ {A = ℕ} 0 1 = cc in absurd (omega arith)
-filing-says-one (answer.Refused r) (answer.Filed t) e = let z : _≡_ {A = ℕ} 0 1 = cc in absurd (omega arith)
-filing-says-one (answer.Refused r) (answer.Refused q) e =
-    let n : reasonNumber (r .reason) ≡ reasonNumber (q .reason) = cc in
-    let p : r .place ≡ q .place = cc in
-    let w = undone reasonNumber reasonOf reason-undone (r .reason) (q .reason) n in
-    ap answer.Refused (λ i. record { reason = w i; place = p i })
+-- a refusal is told from its number and its place
+pub refusalOf : ℕ → List ℕ → Refusal
+refusalOf n [] = record { reason = reasonOf n; place = 0 }
+refusalOf n (place ∷ more) = record { reason = reasonOf n; place = place }
 
--- ── the number of rows ──
+pub refusal-undone : (r : Refusal) → refusalOf (reasonNumber (r .reason)) (r .place ∷ []) ≡ r
+unfolding refusalOf
+refusal-undone r = ap (λ (w : Reason). record { reason = w; place = r .place }) (reason-undone (r .reason))
 
-rows-length : (at : ℕ) (ps : List Placed) → length (rowsFrom at ps) ≡ length ps
-rows-length at [] = refl
-rows-length at (p ∷ ps) = ap suc (rows-length _ ps)
+pub filing-one-to-one : OneToOne filingSays
+filing-one-to-one = undone filingSays back is
+  where
+    back : Outcome Totals → FilingAnswer
+    back (done t) = answer.Filed t
+    back (refused n carried) = answer.Refused (refusalOf n carried)
 
-pub units-rows : (r : Reading) → length (rows r) ≡ length (units r)
-units-rows r = rows-length 0 (placedUnits r) ∙ sym (length-map (placedUnits r) unitOf) ∙ ap length (units-of-placed r)
+    is : (a : FilingAnswer) → back (filingSays a) ≡ a
+    is (answer.Filed t) = refl
+    is (answer.Refused r) = ap answer.Refused (refusal-undone r)
 
--- ── filing itself never says FULL: that is for the words lent ──
+pub checked-one-to-one : OneToOne checkedSays
+checked-one-to-one = undone checkedSays back is
+  where
+    back : Outcome ℕ → Checked
+    back (done n) = checked.Good n
+    back (refused n carried) = checked.Refused (refusalOf n carried)
 
-abbrev NoFull : Step → Type 0
-NoFull (go q) = Unit {0}
-NoFull (stop n) = n ≢ FULL
+    is : (a : Checked) → back (checkedSays a) ≡ a
+    is (checked.Good n) = refl
+    is (checked.Refused r) = ap checked.Refused (refusal-undone r)
 
-cond-no : (t : Bool) (x y : Step) → NoFull x → NoFull y → NoFull (cond t x y)
-cond-no true x y h k = h
-cond-no false x y h k = k
+-- ── FULL is for the words lent alone ──
 
-guard-no : (cs : List (Bool × ℕ)) (x : Step) → All (λ c. c .1 ≢ FULL) cs → NoFull x → NoFull (guard cs x)
-guard-no [] x h k = k
-guard-no (c ∷ cs) x h k = cond-no (c .0) (stop (c .1)) (guard cs x) (h .0) (guard-no cs x (h .1) k)
+NotFull : Inner → Type 0
+NotFull why = inside.reasonNumber why ≢ FULL
 
-choose-no : (cs : List (Bool × Step)) → All (λ c. NoFull (c .1)) cs → NoFull (choose cs)
-choose-no [] h = λ e. omega arith
-choose-no (c ∷ cs) h = cond-no (c .0) (c .1) (choose cs) (h .0) (choose-no cs (h .1))
+-- a reason that is another
+other-reason : (why : Inner) (r : Inner) → why ≡ r → NotFull r → NotFull why
+unfolding NotFull
+other-reason why r e n f = n (ap inside.reasonNumber (sym e) ∙ f)
 
-by-no : {A : Type 0} (r : Result A) (next : A → State) → NoFull (by r next)
-unfolding faultNumber
-by-no (good a) next = tt
-by-no (bad fault.Short) next = λ e. omega arith
-by-no (bad (fault.Marker at)) next = λ e. omega arith
-by-no (bad (fault.Value name at)) next = λ e. omega arith
-by-no (bad fault.Stuffing) next = λ e. omega arith
+fault-never : (f : Fault) → NotFull (inner.Body f)
+unfolding NotFull faultNumber
+fault-never fault.Short e = omega arith
+fault-never (fault.Marker at) e = omega arith
+fault-never (fault.Value name at) e = omega arith
+fault-never fault.Stuffing e = omega arith
 
-picture-no : (rule : SliceRule) (body : List ℕ) → NoFull (pictureStep rule body)
-picture-no rule body = guard-no ((allZero body, SHORT) ∷ []) (go (InPicture rule)) ((λ e. omega arith), tt) tt
+of-body : (Broken : Fault → Type 0) (why : Inner) → OfBody Broken why → NotFull why
+of-body Broken why b = other-reason why (inner.Body (b .0)) (b .2) (fault-never (b .0))
 
-ending-no : (body : List ℕ) (next : State) → NoFull (endingStep body next)
-ending-no body next = guard-no ((not (isNil body), STUFFING) ∷ []) (go next) ((λ e. omega arith), tt) tt
+order-never : {us : List StreamUnit} {u : StreamUnit} {n : ℕ} {why : Inner} → OutOfOrder us u n why → NotFull why
+unfolding NotFull
+order-never {why = why} (order g e) = other-reason why inner.SliceOrder e (λ z. omega arith)
+order-never {why = why} (row g l e) = other-reason why inner.SliceRow e (λ z. omega arith)
 
-slice-no : (rule : SliceRule) (least : ℕ) (u : StreamUnit) → NoFull (sliceStep rule least u)
-slice-no rule least u = guard-no ((allZero (u .body), SHORT) ∷ (rule .tested && ltb (u .code) least, VALUE) ∷ (rule .tested && leb (rule .rows) (u .code), VALUE) ∷ []) _ ((λ e. omega arith), ((λ e. omega arith), ((λ e. omega arith), tt))) tt
+head-never : {extras : List StreamUnit} {u : StreamUnit} {why : Inner} → BadHeadExtension extras u why → NotFull why
+unfolding NotFull
+head-never {why = why} (short n s e) = other-reason why (inner.Body fault.Short) e (fault-never fault.Short)
+head-never {why = why} (twice n l o e) = other-reason why inner.Twice e (λ z. omega arith)
+head-never {why = why} (fields n l o b) = of-body _ why b
+head-never {why = why} (other n b) = of-body _ why b
 
-head-no : (rule : SliceRule) (d : Bool) (body : List ℕ) → NoFull (headExtension rule d body)
-head-no rule d body =
-    cond-no (isDisplay body) _ _
-    (guard-no ((displayShort body, SHORT) ∷ (d, TWICE) ∷ []) _ ((λ e. omega arith), ((λ e. omega arith), tt)) (by-no (displayOf body) (λ x. Head rule true)))
-    (by-no (extensionResult place.Head body) (λ x. Head rule d))
+body-never : (k : Kind) (us : List StreamUnit) (u : StreamUnit) (why : Inner) → BreaksBody k us u why → NotFull why
+body-never kind.Slice us u why (inl b) = other-reason why (inner.Body fault.Short) (b .1) (fault-never fault.Short)
+body-never kind.Slice us u why (inr b) = order-never (b .breaks)
+body-never kind.SequenceHeader us u why b = of-body _ why b
+body-never kind.SequenceEnd us u why b = other-reason why (inner.Body fault.Stuffing) (b .1) (fault-never fault.Stuffing)
+body-never kind.UserData us u why b = absurd b
+body-never kind.IPicture us u why b = other-reason why (inner.Body fault.Short) (b .1) (fault-never fault.Short)
+body-never kind.Extension us u why (inl b) = head-never (b .2)
+body-never kind.Extension us u why (inr b) = of-body _ why (b .1)
+body-never kind.PBPicture us u why b = other-reason why (inner.Body fault.Short) (b .1) (fault-never fault.Short)
+body-never kind.EditCode us u why b = other-reason why (inner.Body fault.Stuffing) (b .1) (fault-never fault.Stuffing)
 
-table-no : (q : State) (u : StreamUnit) → All (λ c. NoFull (c .1)) (table q u)
-table-no Start u = (by-no (headerResult (u .body)) _, tt)
-table-no (Head rule d) u = (tt, (head-no rule d (u .body), (picture-no rule (u .body), tt)))
-table-no (InPicture rule) u = (slice-no rule 0 u, (tt, (by-no (extensionResult place.Picture (u .body)) _, tt)))
-table-no (Slices rule least) u =
-    (slice-no rule least u, (picture-no rule (u .body), (by-no (headerResult (u .body)) _, (ending-no (u .body) Ended, (ending-no (u .body) Closed, tt)))))
-table-no Ended u = (ending-no (u .body) Closed, tt)
-table-no Closed u = tt
+stops-never : {us : List StreamUnit} {left : List ℕ} {why : Inner} → Stops us left why → NotFull why
+unfolding NotFull
+stops-never {why = why} (unended e s w) = other-reason why inner.Unended w (λ z. omega arith)
+stops-never {why = why} (cut e w) = other-reason why inner.Cut w (λ z. omega arith)
+stops-never {why = why} (overlap r e h w) = other-reason why inner.Overlap w (λ z. omega arith)
+stops-never {why = why} (breaks u r e a k (unknown x w)) = other-reason why inner.Unknown w (λ z. omega arith)
+stops-never {why = why} (breaks u r e a k (out-of-place j x p w)) = other-reason why inner.OutOfPlace w (λ z. omega arith)
+stops-never {us} {why = why} (breaks u r e a k (in-place j x p b)) = body-never j us u why b
 
-step-no : (q : State) (u : StreamUnit) → NoFull (step q u)
-unfolding step
-step-no q u = choose-no ((unknown (u .code), stop UNKNOWN) ∷ table q u) ((λ e. omega arith), table-no q u)
-
-abbrev Never : Outcome (List Row) → Type 0
-Never (done rs) = Unit {0}
-Never (refused n carried) = n ≢ FULL
-
-cond-never : (t : Bool) (x y : Outcome (List Row)) → Never x → Never y → Never (cond t x y)
-cond-never true x y h k = h
-cond-never false x y h k = k
-
-row-never : (r : Row) (o : Outcome (List Row)) → Never o → Never (addRow r o)
-row-never r (done rs) h = tt
-row-never r (refused n carried) h = h
-
-continue-never : (x : Step) (at : ℕ) (k : State → Outcome (List Row)) → NoFull x → ((q : State) → Never (k q)) → Never (continue x at k)
-continue-never (go q) at k h f = f q
-continue-never (stop n) at k h f = h
-
-cut-or-overlap : (t : Bool) → cond t CUT OVERLAP ≢ FULL
-cut-or-overlap true e = omega arith
-cut-or-overlap false e = omega arith
-
-from-never : (chunks : List (List ℕ)) (q : State) (at : ℕ) → Never (fileFrom chunks q at)
-unfolding fileFrom
-from-never [] q at = cond-never (final q) (done []) (refused UNENDED (at ∷ [])) tt (λ e. omega arith)
-from-never ([] ∷ chunks) q at = cut-or-overlap (isNil chunks)
-from-never ((code ∷ body) ∷ chunks) q at =
-    continue-never (step q (record { code = code; body = body })) at _ (step-no q (record { code = code; body = body }))
-    (λ q′.
-    let next = at + length (bytes (record { code = code; body = body })) in
-    row-never (rowAt q at (record { code = code; body = body })) (fileFrom chunks q′ next) (from-never chunks q′ next))
-
-filing-never : (s : List ℕ) → Never (filing s)
-unfolding filing filingOfAny
-filing-never s =
-    cond-never (ltb longestStream (length s)) (refused TOO-LONG (0 ∷ [])) _ (λ e. omega arith)
-    (cond-never (begins s) (fileFrom (cut s .chunks) Start 0) (refused NO-CODE (0 ∷ [])) (from-never (cut s .chunks) Start 0) (λ e. omega arith))
-
--- ── what an answer says of the rows ──
-
-within-done-is : (l : ℕ) (o : Outcome (List Row)) (rs : List Row) → within l o ≡ done rs → (o ≡ done rs) × (3 * length rs ≤ l)
-within-done-is l (done qs) rs e =
-    by-test (ltb l (3 * length qs))
-    (λ t. not-done (rw t at e))
-    (λ f. let d : done qs ≡ done rs = rw f at e in let q : qs ≡ rs = cc in (d, subst (λ (x : List Row). 3 * length x ≤ l) q (ltb-false l (3 * length qs) f)))
-within-done-is l (refused n carried) rs e = not-done e
-
-within-full-is : (l : ℕ) (o : Outcome (List Row)) → Never o → within l o ≡ refused FULL (0 ∷ []) → (rs : List Row) × (o ≡ done rs) × (l < 3 * length rs)
-within-full-is l (done rs) h e =
-    by-test (ltb l (3 * length rs))
-    (λ t. (rs, refl, ltb-true l (3 * length rs) t))
-    (λ f. let d : done rs ≡ refused FULL (0 ∷ []) = rw f at e in not-refused d)
-within-full-is l (refused n carried) h e = absurd (h (cc))
-
-totals-is : (o : Outcome (List Row)) (n : ℕ) → mapDone totals o ≡ done (record { units = n }) → (rs : List Row) × (o ≡ done rs) × (length rs ≡ n)
-totals-is (done rs) n e = let t : totals rs ≡ record { units = n } = cc in (rs, refl, ap (λ (x : Totals). x .units) t)
-totals-is (refused k carried) n e = let z : _≡_ {A = ℕ} 0 1 = cc in absurd (omega arith)
-
-refused-is : (o : Outcome (List Row)) (n : ℕ) (carried : List ℕ) → mapDone totals o ≡ refused n carried → o ≡ refused n carried
-refused-is (done rs) n carried e = let z : _≡_ {A = ℕ} 0 1 = cc in absurd (omega arith)
-refused-is (refused k c) n carried e = cc
+refuses-never : {s : List ℕ} {why : Inner} {at : ℕ} → Refuses s why at → NotFull why
+unfolding NotFull
+refuses-never {why = why} (too-long l w p) = other-reason why inner.TooLong w (λ z. omega arith)
+refuses-never {why = why} (no-code l h w p) = other-reason why inner.NoCode w (λ z. omega arith)
+refuses-never (in-unit l h t) = stops-never (t .stops)
 
 -- ── demand 3 ──
 
-module _ (s lent after : List ℕ) (r : FilingAnswer) (said : filingSays r ≡ filed s (length lent)) (words-are : after ≡ wordsAfter (filingInto s (length lent)) lent) where
-  -- the rows of a reading are those that filing finds
-  read-filed : (x : Reading) → length s ≤ longestStream → Reads s x → filing s ≡ done (rows x)
-  read-filed x h k = filed-iff s (rows x) .1 (h, (x, k, refl))
+abbrev fullAnswer : FilingAnswer
+fullAnswer = answer.Refused (record { reason = reason.Full; place = 0 })
 
-  says-filed : (n : ℕ) → r ≡ answer.Filed (record { units = n }) → (rs : List Row) × (filingInto s (length lent) ≡ done rs) × (length rs ≡ n)
+module _ (s lent after : List ℕ) (r : FilingAnswer) (says : filingSays r ≡ filed s (length lent)) (words-are : after ≡ wordsAfter (filingInto s (length lent)) lent) where
+  -- the units of a reading are those that the walk finds
+  read-walked : (x : Reading) → length s ≤ longestStream → Reads s x → walk s ≡ good (placedUnits x)
+  read-walked x h k = walked-iff s (placedUnits x) .1 (h, (x, k, refl))
+
+  says-filed : (n : ℕ) → r ≡ answer.Filed (record { units = n }) → (ms : List Placed) × (walkInto s (length lent) ≡ good ms) × (length ms ≡ n)
   unfolding filed
-  says-filed n e = totals-is (filingInto s (length lent)) n (sym said ∙ ap filingSays e)
-
-  filing-is : (rs : List Row) → filingInto s (length lent) ≡ done rs → (filing s ≡ done rs) × (3 * length rs ≤ length lent)
-  unfolding filingInto
-  filing-is rs e = within-done-is (length lent) (filing s) rs e
+  says-filed n e =
+      let d = said-done totals (walkInto s (length lent)) (record { units = n }) (sym says ∙ ap filingSays e) in
+      (d .0, d .1, ap (λ (t : Totals). t .units) (d .2))
 
   of-filed : (n : ℕ) → r ≡ answer.Filed (record { units = n }) → (length s ≤ longestStream) × ReadingOf s n × (3 * n ≤ length lent)
   of-filed n e =
       let t = says-filed n e in
-      let f = filing-is (t .0) (t .1) in
-      let k = filed-iff s (t .0) .0 (f .0) in
-      let m : length (units (k .1 .0)) ≡ n = sym (units-rows (k .1 .0)) ∙ ap length (sym (k .1 .2)) ∙ t .2 in
+      let f = good-into s (length lent) (t .0) (t .1) in
+      let k = walked-iff s (t .0) .0 (f .0) in
+      let m : length (units (k .1 .0)) ≡ n = sym (units-length (k .1 .0)) ∙ ap length (sym (k .1 .2)) ∙ t .2 in
       let c = t .2 in
       (k .0, (k .1 .0, k .1 .1, m), omega (arith, f .1))
 
@@ -260,55 +234,60 @@ module _ (s lent after : List ℕ) (r : FilingAnswer) (said : filingSays r ≡ f
   unfolding filed
   to-filed n h =
       let x = h .1 .0 in
-      let c : length (rows x) ≡ n = units-rows x ∙ h .1 .2 in
-      let e = into-done s (length lent) (rows x) (read-filed x (h .0) (h .1 .1)) (omega (arith, h .2)) in
-      filing-says-one r (answer.Filed (record { units = n })) (said ∙ ap (mapDone totals) e ∙ ap (λ (m : ℕ). done (record { units = m })) c)
+      let c : length (placedUnits x) ≡ n = units-length x ∙ h .1 .2 in
+      let e = into-good s (length lent) (placedUnits x) (read-walked x (h .0) (h .1 .1)) (omega (arith, h .2)) in
+      filing-one-to-one r (answer.Filed (record { units = n })) (says ∙ ap (said totals) e ∙ ap (λ (m : ℕ). done (record { units = m })) c)
 
-  of-full : r ≡ answer.Refused (record { reason = reason.Full; place = 0 }) → (length s ≤ longestStream) × ((n : ℕ) × ReadingOf s n × (length lent < 3 * n))
-  unfolding filed filingInto
+  of-full : r ≡ fullAnswer → (length s ≤ longestStream) × ((n : ℕ) × ReadingOf s n × (length lent < 3 * n))
+  unfolding filed NotFull
   of-full e =
-      let f = within-full-is (length lent) (filing s) (filing-never s) (refused-is (filingInto s (length lent)) FULL (0 ∷ []) (sym said ∙ ap filingSays e)) in
-      let k = filed-iff s (f .0) .0 (f .1) in
-      let m : length (units (k .1 .0)) ≡ length (f .0) = sym (units-rows (k .1 .0)) ∙ ap length (sym (k .1 .2)) in
-      (k .0, (length (f .0), (k .1 .0, k .1 .1, m), f .2))
+      let k = said-iff totals (walkInto s (length lent)) (RefusesInto s (length lent)) (into-stopped-iff s (length lent)) FULL 0 .0 (sym says ∙ ap filingSays e) in
+      by-cause (k .0) (k .1) (k .2)
+    where
+      by-cause : (why : Inner) → RefusesInto s (length lent) why 0 → FULL ≡ inside.reasonNumber why → (length s ≤ longestStream) × ((n : ℕ) × ReadingOf s n × (length lent < 3 * n))
+      by-cause why (refuses k) n = absurd (refuses-never k (sym n))
+      by-cause why (full l x k b w p) n = (l, (length (units x), (x, k, refl), b))
 
-  to-full : (length s ≤ longestStream) × ((n : ℕ) × ReadingOf s n × (length lent < 3 * n)) → r ≡ answer.Refused (record { reason = reason.Full; place = 0 })
+  to-full : (length s ≤ longestStream) × ((n : ℕ) × ReadingOf s n × (length lent < 3 * n)) → r ≡ fullAnswer
   unfolding filed
   to-full h =
       let x = h .1 .1 .0 in
-      let c : length (rows x) ≡ h .1 .0 = units-rows x ∙ h .1 .1 .2 in
-      let e = into-full s (length lent) (rows x) (read-filed x (h .0) (h .1 .1 .1)) (omega (arith, h .1 .2)) in
-      filing-says-one r (answer.Refused (record { reason = reason.Full; place = 0 })) (said ∙ ap (mapDone totals) e)
+      let c : length (units x) ≡ h .1 .0 = h .1 .1 .2 in
+      let e = into-stopped-iff s (length lent) inner.Full 0 .1 (full (h .0) x (h .1 .1 .1) (omega (arith, h .1 .2)) refl refl) in
+      filing-one-to-one r fullAnswer (says ∙ ap (said totals) e)
 
   of-rows : (n : ℕ) → r ≡ answer.Filed (record { units = n }) → (x : Reading) → Reads s x → after ≡ words (rows x) ++ drop (3 * n) lent
+  unfolding filingInto
   of-rows n e x h =
       let k = of-filed n e in
       let same = same-reading s x (k .1 .0) h (k .1 .1) in
-      let c : length (rows x) ≡ n = units-rows x ∙ ap (λ (y : Reading). length (units y)) same ∙ k .1 .2 in
-      let i = into-done s (length lent) (rows x) (read-filed x (k .0) h) (omega (arith, k .2)) in
-      words-are ∙ ap (λ (o : Outcome (List Row)). wordsAfter o lent) i ∙ ap (λ (m : ℕ). words (rows x) ++ drop (3 * m) lent) c
+      let u : length (placedUnits x) ≡ n = units-length x ∙ ap (λ (y : Reading). length (units y)) same ∙ k .1 .2 in
+      let c : length (rows x) ≡ n = rows-length 0 (placedUnits x) ∙ u in
+      let i = into-good s (length lent) (placedUnits x) (read-walked x (k .0) h) (omega (arith, k .2)) in
+      words-are ∙ ap (λ (w : Walk). wordsAfter (said (rowsFrom 0) w) lent) i ∙ ap (λ (m : ℕ). words (rows x) ++ drop (3 * m) lent) c
 
   of-kept : (why : Refusal) → r ≡ answer.Refused why → after ≡ lent
-  unfolding filed
-  of-kept why e = words-are ∙ ap (λ (o : Outcome (List Row)). wordsAfter o lent) (refused-is (filingInto s (length lent)) _ _ (sym said ∙ ap filingSays e))
+  unfolding filed filingInto
+  of-kept why e =
+      let k = said-refused totals (walkInto s (length lent)) _ _ (sym says ∙ ap filingSays e) in
+      words-are ∙ ap (λ (w : Walk). wordsAfter (said (rowsFrom 0) w) lent) (k .1)
 
   pub demand : FiledByReading s lent after r
   demand = record { filed = λ n. (of-filed n, to-filed n); full = (of-full, to-full); rows = of-rows; kept = of-kept; one = same-reading s }
 
 -- ── refusals ──
 
-pub refused-by : (s : List ℕ) (lent : ℕ) (r : FilingAnswer) → filingSays r ≡ filed s lent → (why : Refusal) → (r ≡ answer.Refused why) ↔ RefusesInto s lent (reasonNumber (why .reason)) (why .place)
+pub refused-by : (s : List ℕ) (lent : ℕ) (r : FilingAnswer) → filingSays r ≡ filed s lent → (why : Refusal) → (r ≡ answer.Refused why) ↔ Numbered (RefusesInto s lent) (reasonNumber (why .reason)) (why .place)
 unfolding filed
-refused-by s lent r said why = (
-  (λ e. into-iff s lent _ _ .0 (refused-is (filingInto s lent) _ _ (sym said ∙ ap filingSays e))),
-  λ h. filing-says-one r (answer.Refused why) (said ∙ ap (mapDone totals) (into-iff s lent _ _ .1 h)),
-)
+refused-by s lent r says why =
+    let k = said-iff totals (walkInto s lent) (RefusesInto s lent) (into-stopped-iff s lent) (reasonNumber (why .reason)) (why .place) in
+    ((λ e. k .0 (sym says ∙ ap filingSays e)), λ h. filing-one-to-one r (answer.Refused why) (says ∙ k .1 h))
 
 -- an answer with its words, and what they say of readings
-pub settled : (s lent after : List ℕ) (r : FilingAnswer) (o : Outcome (List Row)) → filingInto s (length lent) ≡ o → filingSays r ≡ mapDone totals o → after ≡ wordsAfter o lent →
+pub settled : (s lent after : List ℕ) (r : FilingAnswer) (w : Walk) → walkInto s (length lent) ≡ w → filingSays r ≡ said totals w → after ≡ wordsAfter (said (rowsFrom 0) w) lent →
     (filingSays r ≡ filed s (length lent)) × ((after ≡ wordsAfter (filingInto s (length lent)) lent) × FiledByReading s lent after r)
-unfolding filed
-settled s lent after r o e said kept =
-    let a = said ∙ ap (mapDone totals) (sym e) in
-    let w = kept ∙ ap (λ (x : Outcome (List Row)). wordsAfter x lent) (sym e) in
-    (a, (w, demand s lent after r a w))
+unfolding filed filingInto
+settled s lent after r w e says kept =
+    let a = says ∙ ap (said totals) (sym e) in
+    let k = kept ∙ ap (λ (x : Walk). wordsAfter (said (rowsFrom 0) x) lent) (sym e) in
+    (a, (k, demand s lent after r a k))

@@ -1,5 +1,4 @@
-pub mod Laws
-pub mod Units
+-- The laws of the passes, and the theorems.
 pub mod Passes
 pub mod Demand
 pub mod Main

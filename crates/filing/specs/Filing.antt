@@ -4,12 +4,11 @@ use mathlib.Core.Path.{_≡_}
 use mathlib.Core.Logic.{_↔_}
 use mathlib.Core.List.{List, [], _∷_, _++_}
 use lib.ListN.{length, drop}
-use Rattle.answers.specs.Answers.{Outcome, done, refused, mapDone}
-use Rattle.grammar.specs.Grammar.{Reading, Reads, units}
-use Rattle.grammar.specs.Rows.{Row, words, rows as rowsOf}
-use Rattle.grammar.specs.Reader.{filingInto}
+use Rattle.answers.specs.Answers.{Outcome, done, refused, NO-CODE, CUT, OVERLAP, UNKNOWN, OUT-OF-PLACE, SHORT, MARKER, VALUE, STUFFING, TWICE, UNENDED, FULL, TOO-LONG}
 use Rattle.answers.specs.Limits.{longestStream}
-use Rattle.filing.specs.Units.{reasonNumber}
+use Rattle.grammar.specs.Grammar.{Reading, Reads, units}
+use Rattle.grammar.specs.Rows.{Row, Placed, words, rows as rowsOf}
+use Rattle.filing.specs.declared.Reason.{Reason}
 use Rattle.filing.specs.declared.Reason.the-variants as reason
 use Rattle.filing.specs.declared.Refusal.{Refusal}
 use Rattle.filing.specs.declared.Totals.{Totals}
@@ -18,12 +17,25 @@ use Rattle.filing.specs.declared.Checked.the-variants as checked
 use Rattle.filing.specs.declared.FilingAnswer.{FilingAnswer}
 use Rattle.filing.specs.declared.FilingAnswer.the-variants as answer
 
--- the answer gives the number of units
-abbrev pub totals : List Row → Totals
-totals rs = record { units = length rs }
+-- the number of each reason
+abbrev pub reasonNumber : Reason → ℕ
+reasonNumber reason.NoCode = NO-CODE
+reasonNumber reason.Cut = CUT
+reasonNumber reason.Overlap = OVERLAP
+reasonNumber reason.Unknown = UNKNOWN
+reasonNumber reason.OutOfPlace = OUT-OF-PLACE
+reasonNumber reason.Short = SHORT
+reasonNumber reason.Marker = MARKER
+reasonNumber reason.Value = VALUE
+reasonNumber reason.Stuffing = STUFFING
+reasonNumber reason.Twice = TWICE
+reasonNumber reason.Unended = UNENDED
+reasonNumber reason.Full = FULL
+reasonNumber reason.TooLong = TOO-LONG
 
-unfoldable pub filed : List ℕ → ℕ → Outcome Totals
-filed stream lent = mapDone totals (filingInto stream lent)
+-- the answer gives the number of units
+abbrev pub totals : List Placed → Totals
+totals ms = record { units = length ms }
 
 -- three words a unit; words past the last row stay; a refusal leaves all
 abbrev pub wordsAfter : Outcome (List Row) → List ℕ → List ℕ

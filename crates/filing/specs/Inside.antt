@@ -3,14 +3,21 @@ use Prim.Native.Nat.{ℕ, _*_, _≤_}
 use mathlib.Core.Path.{_≡_}
 use mathlib.Core.List.{List}
 use lib.ListN.{length}
-use Rattle.answers.specs.Answers.{done}
-use Rattle.grammar.specs.Rows.{Row}
-use Rattle.grammar.specs.Reader.{filingOfAny}
 use Rattle.answers.specs.Limits.{longestStream}
+use Rattle.answers.specs.Results.{Result, good}
+use Rattle.grammar.specs.Rows.{Placed}
+use Rattle.grammar.specs.Reader.{Stopped, stopAt, walkOfAny}
+use Rattle.filing.specs.declared.Walked.{Walked}
+use Rattle.filing.specs.declared.Walked.the-variants as walked
+
+-- the first pass: how many units, or why it stops and where
+abbrev pub walkedSays : Walked → Result Stopped ℕ
+walkedSays (walked.Good units) = good units
+walkedSays (walked.Stopped why at) = stopAt why at
 
 -- the stream is good and within the limit, and the words suffice
 pub record Writable (stream lent : List ℕ) : Type 0 where
-  pub all : List Row
-  pub filed : filingOfAny stream ≡ done all
+  pub all : List Placed
+  pub walked : walkOfAny stream ≡ good all
   pub short : length stream ≤ longestStream
   pub room : 3 * length all ≤ length lent

@@ -1,4 +1,4 @@
 -- What filing answers and leaves in the lent words.
-pub mod Units
 pub mod Filing
+pub mod Reader
 pub mod Inside

@@ -1,38 +1,20 @@
 // Filing of one video sequence: its units are checked, counted, and then written as rows.
-use grammar::SliceRule;
 use grammar::State;
-use layout::ExtensionAnswer;
-use layout::HeaderAnswer;
-use layout::Place;
-use startcode::UnitKind;
+use layout::Fault;
+use units::UnitAnswer;
 ghost use mathlib.Core.Path.{_≡_};
-ghost use mathlib.Core.Bool.{true, false};
 ghost use mathlib.Core.List.{_∷_, _++_};
 ghost use Prim.Native.Nat.{_+_, _*_, _≤_, _<_};
 ghost use lib.ListN;
 ghost use lib.ListN.{length, take, drop};
-ghost use Rattle.answers.specs.Answers.{mapDone};
-ghost use Rattle.layout.specs.Reader.{extensionResult, allZero};
-ghost use Rattle.layout.specs.Answers as layoutAnswers;
-ghost use Rattle.grammar.specs.Rows.{trimmed, placed, rowLength, words};
-ghost use Rattle.grammar.specs.Reader.{step, choose, table, by, headerStep, headExtension, pictureStep, sliceStep, endingStep, placeIn, final, filingOfAny, filing, filingInto};
-ghost use Rattle.filing.specs.Units.{reasonNumber, stepSays, unitAt, unitSays};
-ghost use Rattle.filing.specs.Filing.{filed, filingSays, checkedSays, wordsAfter, FiledByReading};
-ghost use Rattle.filing.specs.Inside.{Writable};
-
-const SEQUENCE_HEADER: u8 = 0xB0;
-
-const SEQUENCE_END: u8 = 0xB1;
-
-const USER_DATA: u8 = 0xB2;
-
-const I_PICTURE: u8 = 0xB3;
-
-const EXTENSION: u8 = 0xB5;
-
-const PB_PICTURE: u8 = 0xB6;
-
-const EDIT_CODE: u8 = 0xB7;
+ghost use Rattle.answers.specs.Results.{mapGood};
+ghost use Rattle.layout.specs.Answers.{faultNumber};
+ghost use Rattle.grammar.specs.Rows.{rowsFrom};
+ghost use Rattle.grammar.specs.Reasons as inside;
+ghost use Rattle.grammar.specs.Reader.{final, said, walkOfAny, walk, filingInto};
+ghost use Rattle.filing.specs.Filing.{reasonNumber, filingSays, checkedSays, wordsAfter, FiledByReading};
+ghost use Rattle.filing.specs.Reader.{filed};
+ghost use Rattle.filing.specs.Inside.{walkedSays, Writable};
 
 pub enum Reason {
     NoCode,
@@ -65,110 +47,50 @@ pub enum FilingAnswer {
     Refused(Refusal),
 }
 
-// The state after a unit, or why it is refused.
-pub enum Stepped {
-    Go(State),
-    Stop(Reason),
+// The number of units, or the first refusal.
+pub enum Checked {
+    Good(usize),
+    Refused(Refusal),
 }
 
-// The state after a unit, where it ends and its row's length, or why it is refused.
-pub enum UnitAnswer {
-    Next(State, usize, usize),
-    Refused(Reason),
+// The number of units, or why the walk stops and where.
+enum Walked {
+    Good(usize),
+    Stopped(grammar::Reason, usize),
 }
 
-// ── bodies ──
+// ── reasons ──
 
-fn all_zero(body: &[u8]) -> bool
-    ensures { λ r. ⌜ r ≡ allZero (now (body .entry)) ⌝ }
+// The public reason of what is wrong with a body; the field and its bit are not answered.
+fn body_reason(fault: Fault) -> Reason
+    ensures { λ r. ⌜ reasonNumber r ≡ faultNumber fault ⌝ }
 {
-    let mut i: usize = 0;
-    while i < body.len() {
-        if body[i] != 0 {
-            return false;
-        }
-        i += 1;
+    match fault {
+        Fault::Short => Reason::Short,
+        Fault::Marker(_) => Reason::Marker,
+        Fault::Value(_, _) => Reason::Value,
+        Fault::Stuffing => Reason::Stuffing,
     }
-    true
 }
 
-// The length without trailing zero bytes.
-fn trimmed_length(body: &[u8]) -> usize
-    ensures { λ r. ⌜ r ≡ length (trimmed (now (body .entry))) ⌝ }
-{
-    let mut n = body.len();
-    while 0 < n {
-        if body[n - 1] != 0 {
-            return n;
-        }
-        n -= 1;
-    }
-    0
-}
-
-fn reason_of(why: layout::Reason) -> Reason
-    ensures { λ r. ⌜ reasonNumber r ≡ layoutAnswers.reasonNumber why ⌝ }
+// The public reason of why the walk stops.
+fn reason_of(why: grammar::Reason) -> Reason
+    ensures { λ r. ⌜ reasonNumber r ≡ inside.reasonNumber why ⌝ }
 {
     match why {
-        layout::Reason::Short => Reason::Short,
-        layout::Reason::Marker => Reason::Marker,
-        layout::Reason::Value => Reason::Value,
-        layout::Reason::Stuffing => Reason::Stuffing,
+        grammar::Reason::NoCode => Reason::NoCode,
+        grammar::Reason::Cut => Reason::Cut,
+        grammar::Reason::Overlap => Reason::Overlap,
+        grammar::Reason::Unknown => Reason::Unknown,
+        grammar::Reason::OutOfPlace => Reason::OutOfPlace,
+        grammar::Reason::Body(fault) => body_reason(fault),
+        grammar::Reason::SliceOrder => Reason::Value,
+        grammar::Reason::SliceRow => Reason::Value,
+        grammar::Reason::Twice => Reason::Twice,
+        grammar::Reason::Unended => Reason::Unended,
+        grammar::Reason::Full => Reason::Full,
+        grammar::Reason::TooLong => Reason::TooLong,
     }
-}
-
-// ── one unit, by its kind ──
-
-fn header_step(body: &[u8]) -> Stepped
-    ensures { λ r. ⌜ stepSays r ≡ headerStep (now (body .entry)) ⌝ }
-{
-    match layout::sequence_header(body) {
-        HeaderAnswer::Header(h) => {
-            let rule = SliceRule {
-                tested: macroblocks::slices_tested(h),
-                rows: macroblocks::macroblock_rows(h),
-            };
-            Stepped::Go(State::Head(rule, false))
-        }
-        HeaderAnswer::Refused(why) => Stepped::Stop(reason_of(why)),
-    }
-}
-
-// An extension whose body is read goes on in the state next.
-fn extension_step(body: &[u8], place: Place, next: State) -> Stepped
-    ensures { λ r. ⌜ stepSays r ≡ by (extensionResult place (now (body .entry))) (λ x. next) ⌝ }
-{
-    match layout::extension(body, place) {
-        ExtensionAnswer::Display(_) => Stepped::Go(next),
-        ExtensionAnswer::Copyright(_) => Stepped::Go(next),
-        ExtensionAnswer::Opaque(_) => Stepped::Go(next),
-        ExtensionAnswer::Refused(why) => Stepped::Stop(reason_of(why)),
-    }
-}
-
-// SHORT, then TWICE, then the fields of a display extension.
-fn head_extension(rule: SliceRule, display: bool, body: &[u8]) -> Stepped
-    ensures { λ r. ⌜ stepSays r ≡ headExtension rule display (now (body .entry)) ⌝ }
-{
-    if !layout::is_display(body) {
-        return extension_step(body, Place::Head, State::Head(rule, display));
-    }
-    if layout::display_short(body) {
-        return Stepped::Stop(Reason::Short);
-    }
-    if display {
-        return Stepped::Stop(Reason::Twice);
-    }
-    extension_step(body, Place::Head, State::Head(rule, true))
-}
-
-fn picture_step(rule: SliceRule, body: &[u8]) -> Stepped
-    ensures { λ r. ⌜ stepSays r ≡ pictureStep rule (now (body .entry)) ⌝ }
-{
-    if all_zero(body) {
-        return Stepped::Stop(Reason::Short);
-    }
-    Stepped::Go(State::Picture(rule))
 }
 
 fn wide(x: u8) -> u32
@@ -177,206 +99,7 @@ fn wide(x: u8) -> u32
     x as u32
 }
 
-// The order of slices is tested before the rows.
-fn slice_step(rule: SliceRule, least: u32, code: u8, body: &[u8]) -> Stepped
-    ensures { λ r. ⌜ stepSays r ≡ sliceStep rule least (record { code = code; body = now (body .entry) }) ⌝ }
-{
-    if all_zero(body) {
-        return Stepped::Stop(Reason::Short);
-    }
-    let number = wide(code);
-    if !rule.tested {
-        return Stepped::Go(State::Slices(rule, number + 1));
-    }
-    if number < least {
-        return Stepped::Stop(Reason::Value);
-    }
-    if rule.rows <= number {
-        return Stepped::Stop(Reason::Value);
-    }
-    Stepped::Go(State::Slices(rule, number + 1))
-}
-
-fn ending_step(body: &[u8], next: State) -> Stepped
-    ensures { λ r. ⌜ stepSays r ≡ endingStep (now (body .entry)) next ⌝ }
-{
-    if body.len() != 0 {
-        return Stepped::Stop(Reason::Stuffing);
-    }
-    Stepped::Go(next)
-}
-
-// ── one unit, by the state that it is read in ──
-
-fn in_head(rule: SliceRule, display: bool, code: u8, body: &[u8]) -> Stepped
-    ensures { λ r. ⌜ stepSays r ≡ choose (table (State.Head rule display) (record { code = code; body = now (body .entry) })) ⌝ }
-{
-    if code == USER_DATA {
-        return Stepped::Go(State::Head(rule, display));
-    }
-    if code == EXTENSION {
-        return head_extension(rule, display, body);
-    }
-    if code == I_PICTURE {
-        return picture_step(rule, body);
-    }
-    Stepped::Stop(Reason::OutOfPlace)
-}
-
-fn in_picture(rule: SliceRule, code: u8, body: &[u8]) -> Stepped
-    ensures { λ r. ⌜ stepSays r ≡ choose (table (State.Picture rule) (record { code = code; body = now (body .entry) })) ⌝ }
-{
-    if code < SEQUENCE_HEADER {
-        return slice_step(rule, 0, code, body);
-    }
-    if code == USER_DATA {
-        return Stepped::Go(State::Picture(rule));
-    }
-    if code == EXTENSION {
-        return extension_step(body, Place::Picture, State::Picture(rule));
-    }
-    Stepped::Stop(Reason::OutOfPlace)
-}
-
-fn after_slice(rule: SliceRule, least: u32, code: u8, body: &[u8]) -> Stepped
-    ensures { λ r. ⌜ stepSays r ≡ choose (table (State.Slices rule least) (record { code = code; body = now (body .entry) })) ⌝ }
-{
-    if code < SEQUENCE_HEADER {
-        return slice_step(rule, least, code, body);
-    }
-    if code == I_PICTURE {
-        return picture_step(rule, body);
-    }
-    if code == PB_PICTURE {
-        return picture_step(rule, body);
-    }
-    if code == SEQUENCE_HEADER {
-        return header_step(body);
-    }
-    if code == SEQUENCE_END {
-        return ending_step(body, State::Ended);
-    }
-    if code == EDIT_CODE {
-        return ending_step(body, State::Closed);
-    }
-    Stepped::Stop(Reason::OutOfPlace)
-}
-
-fn in_state(state: State, code: u8, body: &[u8]) -> Stepped
-    ensures { λ r. ⌜ stepSays r ≡ choose (table state (record { code = code; body = now (body .entry) })) ⌝ }
-{
-    match state {
-        State::Start => {
-            if code == SEQUENCE_HEADER {
-                header_step(body)
-            } else {
-                Stepped::Stop(Reason::OutOfPlace)
-            }
-        }
-        State::Head(rule, display) => in_head(rule, display, code, body),
-        State::Picture(rule) => in_picture(rule, code, body),
-        State::Slices(rule, least) => after_slice(rule, least, code, body),
-        State::Ended => {
-            if code == EDIT_CODE {
-                ending_step(body, State::Closed)
-            } else {
-                Stepped::Stop(Reason::OutOfPlace)
-            }
-        }
-        State::Closed => Stepped::Stop(Reason::OutOfPlace),
-    }
-}
-
-fn step_unit(state: State, code: u8, body: &[u8]) -> Stepped
-    ensures { λ r. ⌜ stepSays r ≡ step state (record { code = code; body = now (body .entry) }) ⌝ }
-{
-    match startcode::kind_of(code) {
-        UnitKind::Is(_) => in_state(state, code, body),
-        UnitKind::Unknown => Stepped::Stop(Reason::Unknown),
-    }
-}
-
-// ── a row's length ──
-
-fn place_in(state: State, code: u8) -> Place
-    ensures { λ r. ⌜ r ≡ placeIn state code ⌝ }
-{
-    match state {
-        State::Head(_, _) => {
-            if code == I_PICTURE {
-                Place::Picture
-            } else {
-                Place::Head
-            }
-        }
-        State::Start => Place::Picture,
-        State::Picture(_) => Place::Picture,
-        State::Slices(_, _) => Place::Picture,
-        State::Ended => Place::Picture,
-        State::Closed => Place::Picture,
-    }
-}
-
-// The body without its trailing zero bytes, but the whole body for user data and opaque extensions.
-fn row_length(place: Place, code: u8, body: &[u8]) -> usize
-    ensures { λ r. ⌜ r ≡ rowLength (placed place (record { code = code; body = now (body .entry) })) ⌝ }
-{
-    if code == USER_DATA { // may end in zero bytes
-        return body.len();
-    }
-    if code == EXTENSION {
-        match layout::extension(body, place) {
-            ExtensionAnswer::Opaque(_) => {
-                return body.len();
-            }
-            ExtensionAnswer::Display(_) => {
-                return trimmed_length(body);
-            }
-            ExtensionAnswer::Copyright(_) => {
-                return trimmed_length(body);
-            }
-            ExtensionAnswer::Refused(_) => {
-                return trimmed_length(body);
-            }
-        }
-    }
-    trimmed_length(body)
-}
-
-// ── one unit of a stream ──
-
-// The unit at an offset, read in a state.
-pub fn unit_at(stream: &[u8], state: State, at: usize) -> UnitAnswer
-    ensures { λ r. ⌜ unitSays r ≡ unitAt (now (stream .entry)) state at ⌝ }
-{
-    if !startcode::prefix_at(stream, at) {
-        return UnitAnswer::Refused(Reason::NoCode);
-    }
-    let code_at = at + 3;
-    if stream.len() == code_at {
-        return UnitAnswer::Refused(Reason::Cut);
-    }
-    if startcode::prefix_at(stream, code_at) {
-        return UnitAnswer::Refused(Reason::Overlap);
-    }
-    let end = startcode::next_prefix(stream, code_at);
-    let code = stream[code_at];
-    let from = at + 4;
-    let body = &stream[from..end];
-    let place = place_in(state, code);
-    match step_unit(state, code, body) {
-        Stepped::Go(next) => UnitAnswer::Next(next, end, row_length(place, code, body)),
-        Stepped::Stop(why) => UnitAnswer::Refused(why),
-    }
-}
-
 // ── the first pass ──
-
-// The number of units, or the first refusal.
-pub enum Checked {
-    Good(usize),
-    Refused(Refusal),
-}
 
 fn is_final(state: State) -> bool
     ensures { λ r. ⌜ r ≡ final state ⌝ }
@@ -392,45 +115,39 @@ fn is_final(state: State) -> bool
 }
 
 // Each unit is checked, and the units are counted; no lent word is touched.
-fn check_units(stream: &[u8]) -> Checked
-    ensures { λ r. ⌜ checkedSays r ≡ mapDone length (filingOfAny (now (stream .entry))) ⌝ }
+fn check_units(stream: &[u8]) -> Walked
+    ensures { λ r. ⌜ walkedSays r ≡ mapGood length (walkOfAny (now (stream .entry))) ⌝ }
 {
     if !startcode::prefix_at(stream, 0) {
-        return Checked::Refused(Refusal {
-            reason: Reason::NoCode,
-            place: 0,
-        });
+        return Walked::Stopped(grammar::Reason::NoCode, 0);
     }
     let mut state = State::Start;
     let mut at: usize = 0;
     let mut units: usize = 0;
     while at < stream.len() {
-        match unit_at(stream, state, at) {
+        match units::unit_at(stream, state, at) {
             UnitAnswer::Next(next, end, _) => {
                 state = next;
                 at = end;
                 units += 1;
             }
             UnitAnswer::Refused(why) => {
-                return Checked::Refused(Refusal {
-                    reason: why,
-                    place: at,
-                });
+                return Walked::Stopped(why, at);
+            }
+            UnitAnswer::NoUnit => {
+                return Walked::Stopped(grammar::Reason::NoCode, at);
             }
         }
     }
     if is_final(state) {
-        return Checked::Good(units);
+        return Walked::Good(units);
     }
-    Checked::Refused(Refusal {
-        reason: Reason::Unended,
-        place: at,
-    })
+    Walked::Stopped(grammar::Reason::Unended, at)
 }
 
 // A stream is checked and no row is written: filing's answer, FULL aside.
 pub fn check(stream: &[u8]) -> Checked
-    ensures { λ r. ⌜ checkedSays r ≡ mapDone length (filing (now (stream .entry))) ⌝ }
+    ensures { λ r. ⌜ checkedSays r ≡ said length (walk (now (stream .entry))) ⌝ }
 {
     if 16777216 < stream.len() {
         return Checked::Refused(Refusal {
@@ -438,7 +155,13 @@ pub fn check(stream: &[u8]) -> Checked
             place: 0,
         });
     }
-    check_units(stream)
+    match check_units(stream) {
+        Walked::Good(units) => Checked::Good(units),
+        Walked::Stopped(why, place) => Checked::Refused(Refusal {
+            reason: reason_of(why),
+            place: place,
+        }),
+    }
 }
 
 // ── the second pass ──
@@ -457,13 +180,13 @@ fn put_row(rows: &mut [u32], i: usize, code: u8, offset: usize, length: usize)
 // The rows of a stream that is good, into words that suffice.
 fn write_rows(stream: &[u8], rows: &mut [u32])
     requires { ⌜ Writable (now stream) (now rows) ⌝ }
-    ensures { λ r. ⌜ now (rows .exit) ≡ wordsAfter (filingOfAny (now (stream .entry))) (now (rows .entry)) ⌝ }
+    ensures { λ r. ⌜ now (rows .exit) ≡ wordsAfter (said (rowsFrom 0) (walkOfAny (now (stream .entry)))) (now (rows .entry)) ⌝ }
 {
     let mut state = State::Start;
     let mut at: usize = 0;
     let mut i: usize = 0;
     while at < stream.len() {
-        match unit_at(stream, state, at) {
+        match units::unit_at(stream, state, at) {
             UnitAnswer::Next(next, end, length) => {
                 let code = stream[at + 3];
                 put_row(rows, i, code, at, length);
@@ -472,6 +195,9 @@ fn write_rows(stream: &[u8], rows: &mut [u32])
                 i += 1;
             }
             UnitAnswer::Refused(_) => {
+                return;
+            }
+            UnitAnswer::NoUnit => {
                 return;
             }
         }

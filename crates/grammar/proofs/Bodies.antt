@@ -15,8 +15,10 @@ use Rattle.bits.specs.declared.Bit.{Bit}
 use Rattle.bits.specs.declared.Bit.the-variants as bit
 use Rattle.bits.specs.declared.Read.{Read}
 use Rattle.bits.specs.declared.Read.the-variants.{Value}
-use Rattle.bits.proofs.Lists.{by-test}
-use Rattle.layout.specs.Reader.{recordOf, numberOf, headerResult, byNumber, notCopyright, extensionResult, isDisplay, isTwo, isOne, readBit, displayShort, displayOf, plainOf, colouredOf, copyrightOf, Result, _>>_, refuseIf, readValue, recorded, reading, short}
+use Rattle.bits.proofs.Lists.{by-test, contrary}
+use Rattle.layout.specs.Reader.{recordOf, numberOf, headerResult, byNumber, notCopyright, extensionResult, isOne, readBit, displayShort, displayOf, plainOf, colouredOf, copyrightOf, Result, _>>_, refuseIf, readValue, recorded, reading, short}
+use Rattle.layout.specs.Extensions.{numbered, HasNumber}
+use Rattle.layout.proofs.NumberLaws.{number-iff}
 use Rattle.layout.specs.Answers as answers
 use Rattle.layout.specs.Layouts.{fields, leastBytes}
 use Rattle.layout.specs.Obeys.{Fits, AllAllowed, written, Obeys}
@@ -70,12 +72,15 @@ unfolding readAt readOn bitsOf
 number-none n e = let z : _≡_ {A = ℕ} 0 1 = cc in omega arith
 
 -- a body with a number has a byte
-pub number-byte : (body : List ℕ) (n : ℕ) → numberOf body ≡ Value n → body ≢ []
-number-byte body n e empty = number-none n (subst (λ (b : List ℕ). numberOf b ≡ Value n) empty e)
+pub number-byte : (body : List ℕ) (n : ℕ) → HasNumber body n → body ≢ []
+number-byte body n h empty = number-none n (subst (λ (b : List ℕ). numberOf b ≡ Value n) empty (number-iff body n .1 h))
 
-two-is : (body : List ℕ) (n : ℕ) → numberOf body ≡ Value n → isDisplay body ≡ eqb n 2
-unfolding isDisplay
-two-is body n e = ap isTwo e
+-- and no other number
+pub number-one : (body : List ℕ) (m n : ℕ) → HasNumber body m → HasNumber body n → m ≡ n
+number-one body m n h k = let e = number-iff body m .1 h in let f = number-iff body n .1 k in cc
+
+two-is : (body : List ℕ) (n : ℕ) → numberOf body ≡ Value n → numbered 2 body ≡ false → eqb n 2 ≡ false
+two-is body n e f = by-test (eqb n 2) (λ t. contrary (numbered 2 body) (number-iff body 2 .0 (e ∙ ap Value (eqb-true n 2 t)) .bits) f) (λ g. g)
 
 -- ── copyright and opaque extensions ──
 
@@ -103,9 +108,9 @@ module _ (body : List ℕ) (p : Place) (plain : (n : ℕ) → numberOf body ≡ 
         let r = bind-good (readValue (numberOf body)) _ (h .0) (h .1) in
         let n = read-good (numberOf body) (r .0) (r .1) in
         record {
-          some-byte = number-byte body (r .0) n;
+          some-byte = number-byte body (r .0) (number-iff body (r .0) .0 n);
           copyright = λ four.
-              let f : r .0 ≡ 4 = cc in
+              let f : r .0 ≡ 4 = number-one body (r .0) 4 (number-iff body (r .0) .0 n) four in
               let c : copyrightOf body ≡ good (h .0) = rw (eq-eqb (r .0) 4 f) at (r .2) in
               copyright-good body .0 (h .0, c);
         }),
@@ -115,7 +120,7 @@ module _ (body : List ℕ) (p : Place) (plain : (n : ℕ) → numberOf body ≡ 
         by-test (eqb (n .0) 4)
         (λ t.
         let four : numberOf body ≡ Value 4 = n .1 ∙ ap Value (eqb-true (n .0) 4 t) in
-        let c = copyright-good body .1 (h .copyright four) in
+        let c = copyright-good body .1 (h .copyright (number-iff body 4 .0 four)) in
         (c .0, start ∙ rw t (c .1)))
         (λ f. (answers.opaque (n .0), start ∙ rw f (plain (n .0) (n .1)))),
   )
@@ -125,8 +130,8 @@ pub picture-good : (body : List ℕ) → ((x : answers.Extension) × (extensionR
 picture-good body = extension-good body place.Picture (λ n e. refl)
 
 -- in a group's head, where the number is not 2
-pub head-good : (body : List ℕ) → isDisplay body ≡ false → ((x : answers.Extension) × (extensionResult place.Head body ≡ good x)) ↔ Extension body
-head-good body f = extension-good body place.Head (λ n e. let two : eqb n 2 ≡ false = sym (two-is body n e) ∙ f in rw two)
+pub head-good : (body : List ℕ) → numbered 2 body ≡ false → ((x : answers.Extension) × (extensionResult place.Head body ≡ good x)) ↔ Extension body
+head-good body f = extension-good body place.Head (λ n e. let two = two-is body n e f in rw two)
 
 -- ── display extensions ──
 

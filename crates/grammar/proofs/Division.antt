@@ -5,22 +5,20 @@ use mathlib.Core.Logic.{_≢_, _⊎_, inl, inr, _↔_}
 use mathlib.Core.List.{List, [], _∷_, _++_, map, append-assoc, map-append}
 use mathlib.Core.Bool.{Bool, true, false}
 use native.Mathlib.Omega.{arith}
-use lib.Dec.{eqb}
-use borrow.Author.Tests.{eq-eqb, eqb-true}
 use Rattle.bits.specs.Lists.{All}
-use Rattle.bits.specs.declared.Read.{Read}
-use Rattle.bits.specs.declared.Read.the-variants.{Value, Missing, TooWide}
-use Rattle.bits.proofs.Lists.{by-test}
-use Rattle.layout.specs.Reader.{numberOf, isDisplay, isTwo}
+use Rattle.bits.proofs.Lists.{by-test, contrary}
+use Rattle.startcode.specs.declared.Kind.the-variants as kind
+use Rattle.layout.specs.Extensions.{numbered, HasNumber}
 use Rattle.layout.specs.declared.Place.{Place}
 use Rattle.layout.specs.declared.Place.the-variants as place
 use Rattle.layout.specs.declared.SequenceHeader.{SequenceHeader}
 use Rattle.grammar.specs.Lists.{AtMostOne, concatMap}
-use Rattle.grammar.specs.Grammar.{StreamUnit, Picture, Group, Reading, Nonzero, Rising, endUnit, editUnit, IsEnding, Extension, IsHeader, IsDisplay, PictureExtra, HeadExtra, DisplayUnit, IsSlice, IsPicture, FirstIsI, IsGroup, sliceRule}
+use Rattle.grammar.specs.Grammar.{StreamUnit, IsKind, Picture, Group, Reading, Nonzero, Rising, Empty, IsEnding, Extension, IsHeader, IsDisplay, PictureExtra, HeadExtra, DisplayUnit, IsSlice, IsPictureHead, IsPicture, FirstIsI, IsGroup, sliceRule}
 use Rattle.grammar.specs.Rows.{Placed, placed, pictureRow, groupRow}
 use Rattle.grammar.specs.Reader.{placeIn, final}
 use Rattle.grammar.specs.declared.SliceRule.{SliceRule}
 use Rattle.grammar.specs.declared.State.{State}
+use Rattle.grammar.proofs.KindLaws.{apart}
 use Rattle.grammar.specs.declared.State.the-variants.{Start, Head, Picture as InPicture, Slices, Ended, Closed}
 
 -- each code is at least n and greater than the one before it, and less than rows
@@ -54,44 +52,38 @@ groups-marks g gs t = simp append-assoc
 
 -- ── an extension's number is 2, or not ──
 
-two-true : (r : Read) → isTwo r ≡ true → r ≡ Value 2
-two-true (Value n) t = ap Value (eqb-true n 2 t)
-two-true Missing t = let z : _≡_ {A = ℕ} 0 1 = cc in absurd (omega arith)
-two-true TooWide t = let z : _≡_ {A = ℕ} 0 1 = cc in absurd (omega arith)
+pub number-two : (body : List ℕ) → (numbered 2 body ≡ true) ↔ HasNumber body 2
+number-two body = ((λ t. record { small = omega arith; bits = t }), λ h. h .bits)
 
-pub number-two : (body : List ℕ) → (isDisplay body ≡ true) ↔ (numberOf body ≡ Value 2)
-unfolding isDisplay
-number-two body = (two-true (numberOf body), λ e. ap isTwo e)
-
-pub number-not-two : (body : List ℕ) → (isDisplay body ≡ false) ↔ (numberOf body ≢ Value 2)
+pub number-not-two : (body : List ℕ) → (numbered 2 body ≡ false) ↔ (¬ HasNumber body 2)
 number-not-two body = (
-  (λ f e. let z : _≡_ {A = ℕ} 0 1 = cc (number-two body .1 e) in omega arith),
-  λ n. by-test (isDisplay body) (λ t. absurd (n (number-two body .0 t))) (λ f. f),
+  (λ f h. contrary (numbered 2 body) (h .bits) f),
+  λ n. by-test (numbered 2 body) (λ t. absurd (n (number-two body .0 t))) (λ f. f),
 )
 
-two-or-not : (body : List ℕ) → Dec (numberOf body ≡ Value 2)
-two-or-not body = by-test (isDisplay body) (λ t. yes (number-two body .0 t)) (λ f. no (number-not-two body .0 f))
+two-or-not : (body : List ℕ) → Dec (HasNumber body 2)
+two-or-not body = by-test (numbered 2 body) (λ t. yes (number-two body .0 t)) (λ f. no (number-not-two body .0 f))
 
 -- ── a unit leads from one state to another ──
 
 pub data Goes : State → StreamUnit → State → Type 0 where
-  sequence : {u : StreamUnit} {header : SequenceHeader} → u .code ≡ 0xB0 → IsHeader (u .body) header → Goes Start u (Head (sliceRule header) false)
-  user : {u : StreamUnit} {h : SliceRule} {d : Bool} → u .code ≡ 0xB2 → Goes (Head h d) u (Head h d)
-  extension : {u : StreamUnit} {h : SliceRule} {d : Bool} → u .code ≡ 0xB5 → Extension (u .body) → numberOf (u .body) ≢ Value 2 → Goes (Head h d) u (Head h d)
-  display : {u : StreamUnit} {h : SliceRule} → u .code ≡ 0xB5 → Extension (u .body) → numberOf (u .body) ≡ Value 2 → IsDisplay (u .body) → Goes (Head h false) u (Head h true)
-  first-picture : {u : StreamUnit} {h : SliceRule} {d : Bool} → u .code ≡ 0xB3 → Nonzero (u .body) → Goes (Head h d) u (InPicture h)
+  sequence : {u : StreamUnit} {header : SequenceHeader} → IsKind kind.SequenceHeader u → IsHeader (u .body) header → Goes Start u (Head (sliceRule header) false)
+  user : {u : StreamUnit} {h : SliceRule} {d : Bool} → IsKind kind.UserData u → Goes (Head h d) u (Head h d)
+  extension : {u : StreamUnit} {h : SliceRule} {d : Bool} → IsKind kind.Extension u → Extension (u .body) → ¬ HasNumber (u .body) 2 → Goes (Head h d) u (Head h d)
+  display : {u : StreamUnit} {h : SliceRule} → IsKind kind.Extension u → Extension (u .body) → HasNumber (u .body) 2 → IsDisplay (u .body) → Goes (Head h false) u (Head h true)
+  first-picture : {u : StreamUnit} {h : SliceRule} {d : Bool} → IsKind kind.IPicture u → Nonzero (u .body) → Goes (Head h d) u (InPicture h)
   extra : {u : StreamUnit} {h : SliceRule} → PictureExtra u → Goes (InPicture h) u (InPicture h)
   first-slice : {u : StreamUnit} {h : SliceRule} → IsSlice u → (h .tested ≡ true → (0 ≤ u .code) × (u .code < h .rows)) → Goes (InPicture h) u (Slices h (u .code + 1))
   next-slice : {u : StreamUnit} {h : SliceRule} {n : ℕ} → IsSlice u → (h .tested ≡ true → (n ≤ u .code) × (u .code < h .rows)) → Goes (Slices h n) u (Slices h (u .code + 1))
-  next-picture : {u : StreamUnit} {h : SliceRule} {n : ℕ} → (u .code ≡ 0xB3) ⊎ (u .code ≡ 0xB6) → Nonzero (u .body) → Goes (Slices h n) u (InPicture h)
-  next-sequence : {u : StreamUnit} {h : SliceRule} {n : ℕ} {header : SequenceHeader} → u .code ≡ 0xB0 → IsHeader (u .body) header → Goes (Slices h n) u (Head (sliceRule header) false)
-  end : {u : StreamUnit} {h : SliceRule} {n : ℕ} → u .code ≡ 0xB1 → u .body ≡ [] → Goes (Slices h n) u Ended
-  edit : {u : StreamUnit} {h : SliceRule} {n : ℕ} → u .code ≡ 0xB7 → u .body ≡ [] → Goes (Slices h n) u Closed
-  end-edit : {u : StreamUnit} → u .code ≡ 0xB7 → u .body ≡ [] → Goes Ended u Closed
+  next-picture : {u : StreamUnit} {h : SliceRule} {n : ℕ} → IsPictureHead u → Nonzero (u .body) → Goes (Slices h n) u (InPicture h)
+  next-sequence : {u : StreamUnit} {h : SliceRule} {n : ℕ} {header : SequenceHeader} → IsKind kind.SequenceHeader u → IsHeader (u .body) header → Goes (Slices h n) u (Head (sliceRule header) false)
+  end : {u : StreamUnit} {h : SliceRule} {n : ℕ} → IsKind kind.SequenceEnd u → u .body ≡ [] → Goes (Slices h n) u Ended
+  edit : {u : StreamUnit} {h : SliceRule} {n : ℕ} → IsKind kind.EditCode u → u .body ≡ [] → Goes (Slices h n) u Closed
+  end-edit : {u : StreamUnit} → IsKind kind.EditCode u → u .body ≡ [] → Goes Ended u Closed
 
 abbrev pub Accepts : State → List Placed → Type 0
 Accepts q [] = final q ≡ true
-Accepts q (m ∷ ms) = (q′ : State) × Goes q (m .unit) q′ × (m .place ≡ placeIn q (m .unit .code)) × Accepts q′ ms
+Accepts q (m ∷ ms) = (q′ : State) × Goes q (m .unit) q′ × (m .place ≡ placeIn q (m .unit)) × Accepts q′ ms
 
 -- ── from the states to the grammar ──
 
@@ -144,29 +136,29 @@ Rest Start ms = RestStart ms
 Rest (Head h d) ms = RestHead h d ms
 Rest (InPicture h) ms = RestPicture h ms
 Rest (Slices h n) ms = RestSlices h n ms
-Rest Ended ms = (ms ≡ []) ⊎ (ms ≡ placed place.Picture editUnit ∷ [])
+Rest Ended ms = (ms ≡ []) ⊎ ((e : StreamUnit) × Empty kind.EditCode e × (ms ≡ placed place.Picture e ∷ []))
 Rest Closed ms = ms ≡ []
 
 cons-not-nil : {A : Type 0} (a : A) (l : List A) → a ∷ l ≢ []
 cons-not-nil a l e = let z : _≡_ {A = ℕ} 0 1 = cc in omega arith
 
-one-group : {ms : List Placed} (u : StreamUnit) (b : Place) (header : SequenceHeader) → u .code ≡ 0xB0 → IsHeader (u .body) header → b ≡ place.Picture → RestHead (sliceRule header) false ms → RestStart (placed b u ∷ ms)
+one-group : {ms : List Placed} (u : StreamUnit) (b : Place) (header : SequenceHeader) → IsKind kind.SequenceHeader u → IsHeader (u .body) header → b ≡ place.Picture → RestHead (sliceRule header) false ms → RestStart (placed b u ∷ ms)
 one-group u b header c k f r = record {
   rest = record {
     gs = record { head = u; extras = r .xs; pictures = r .after .ps } ∷ r .after .after .gs;
     e = r .after .after .e;
-    groups = (record { header = header; code = c; body = k; extras = r .extras; one-display = r .one-display; first = r .first; pictures = r .after .pictures }, r .after .after .groups);
+    groups = (record { header = header; kind = c; body = k; extras = r .extras; one-display = r .one-display; first = r .first; pictures = r .after .pictures }, r .after .after .groups);
     ending = r .after .after .ending;
     is = rw (f, r .is, r .after .is, r .after .after .is) (simp append-assoc);
   };
   some-group = cons-not-nil _ _;
 }
 
-one-picture : {h : SliceRule} {ms : List Placed} (u : StreamUnit) (b : Place) → (u .code ≡ 0xB3) ⊎ (u .code ≡ 0xB6) → Nonzero (u .body) → b ≡ place.Picture → RestPicture h ms → RestPictures h (placed b u ∷ ms)
+one-picture : {h : SliceRule} {ms : List Placed} (u : StreamUnit) (b : Place) → IsPictureHead u → Nonzero (u .body) → b ≡ place.Picture → RestPicture h ms → RestPictures h (placed b u ∷ ms)
 one-picture {h} u b c k f r = record {
   ps = record { head = u; extras = r .xs; slices = r .after .ss } ∷ r .after .after .ps;
   tail = r .after .after .tail;
-  pictures = (record { code = c; body = k; extras = r .extras; some-slice = r .some-slice; slices = r .after .slices; order = λ w. from-rising 0 (h .rows) (r .after .ss) (r .after .order w) }, r .after .after .pictures);
+  pictures = (record { kind = c; body = k; extras = r .extras; some-slice = r .some-slice; slices = r .after .slices; order = λ w. from-rising 0 (h .rows) (r .after .ss) (r .after .order w) }, r .after .after .pictures);
   is = rw (f, r .is, r .after .is, r .after .after .is) (simp (append-assoc, picture-marks));
   after = r .after .after .after;
 }
@@ -195,17 +187,14 @@ more-extra u b k n f r = record {
 one-slice : {h : SliceRule} {n : ℕ} {ms : List Placed} (u : StreamUnit) (b : Place) → IsSlice u → (h .tested ≡ true → (n ≤ u .code) × (u .code < h .rows)) → b ≡ place.Picture → RestSlices h (u .code + 1) ms → RestSlices h n (placed b u ∷ ms)
 one-slice u b k o f r = record { ss = u ∷ r .ss; tail = r .tail; slices = (k, r .slices); order = λ w. (o w .0, o w .1, r .order w); is = rw (f, r .is); after = r .after }
 
-piece-is : (u v : StreamUnit) → u .code ≡ v .code → u .body ≡ v .body → u ≡ v
-piece-is u v c k = λ i. record { code = c i; body = k i }
-
 no-false : {A : Type 0} → false ≡ true → A
 no-false e = let z : _≡_ {A = ℕ} 0 1 = cc in absurd (omega arith)
 
 -- one unit back
-back : {q q′ : State} {u : StreamUnit} → Goes q u q′ → (b : Place) → b ≡ placeIn q (u .code) → (ms : List Placed) → Rest q′ ms → Rest q (placed b u ∷ ms)
+back : {q q′ : State} {u : StreamUnit} → Goes q u q′ → (b : Place) → b ≡ placeIn q u → (ms : List Placed) → Rest q′ ms → Rest q (placed b u ∷ ms)
 unfolding one-picture one-slice
 back (sequence {u} {header} c k) b f ms r = one-group u b header c k f r
-back (user {u} c) b f ms r = more-extra u b (inl c) (λ d. omega arith) (rw c at f) r
+back (user {u} c) b f ms r = more-extra u b (inl c) (λ d. apart kind.UserData kind.Extension refl c (d .0)) (rw c at f) r
 back (extension {u} c k n) b f ms r = more-extra u b (inr (c, k, λ e. absurd (n e))) (λ d. n (d .1)) (rw c at f) r
 back (display {u} c k n d) b f ms r = let t : b ≡ place.Head = rw c at f in
     record {
@@ -224,10 +213,10 @@ back (first-slice {u} k o) b f ms r = record { xs = []; tail = _; extras = tt; i
 back (next-slice {u} k o) b f ms r = one-slice u b k o f r
 back (next-picture c k) b f ms r = no-slices (one-picture _ b c k f r)
 back (next-sequence {u} {header = header} c k) b f ms r = no-pictures (one-group u b header c k f r .rest)
-back (end {u} c k) b f ms (inl e) = let p = piece-is u endUnit c k in just-ending (endUnit ∷ []) (inl refl) (cc)
-back (end {u} c k) b f ms (inr e) = let p = piece-is u endUnit c k in just-ending (endUnit ∷ editUnit ∷ []) (inr (inr refl)) (cc)
-back (edit {u} c k) b f ms r = let p = piece-is u editUnit c k in just-ending (editUnit ∷ []) (inr (inl refl)) (cc)
-back (end-edit {u} c k) b f ms r = let p = piece-is u editUnit c k in inr (cc)
+back (end {u} c k) b f ms (inl e) = just-ending (u ∷ []) (inl (c, k)) (rw (f, e))
+back (end {u} c k) b f ms (inr e) = just-ending (u ∷ e .0 ∷ []) ((c, k), e .1) (rw (f, e .2))
+back (edit {u} c k) b f ms r = just-ending (u ∷ []) (inr (c, k)) (rw (f, r))
+back (end-edit {u} c k) b f ms r = inr (u, (c, k), rw (f, r))
 
 at-end : (q : State) → final q ≡ true → Rest q []
 at-end Start e = no-false e
@@ -244,9 +233,11 @@ sound (m ∷ ms) q a = back (a .1) (m .place) (a .2) ms (sound ms (a .0) (a .3))
 -- ── from the grammar to the states ──
 
 ending-passes : (h : SliceRule) (n : ℕ) (e : List StreamUnit) → IsEnding e → Accepts (Slices h n) (map (placed place.Picture) e)
-ending-passes h n e (inl p) = rw p (Ended, end refl refl, refl, refl)
-ending-passes h n e (inr (inl p)) = rw p (Closed, edit refl refl, refl, refl)
-ending-passes h n e (inr (inr p)) = rw p (Ended, end refl refl, refl, (Closed, end-edit refl refl, refl, refl))
+ending-passes h n [] p = absurd p
+ending-passes h n (e ∷ []) (inl p) = (Ended, end (p .0) (p .1), refl, refl)
+ending-passes h n (e ∷ []) (inr p) = (Closed, edit (p .0) (p .1), refl, refl)
+ending-passes h n (e ∷ f ∷ []) p = (Ended, end (p .0 .0) (p .0 .1), refl, (Closed, end-edit (p .1 .0) (p .1 .1), refl, refl))
+ending-passes h n (e ∷ f ∷ g ∷ more) p = absurd p
 
 slices-pass : (h : SliceRule) (n : ℕ) (ss : List StreamUnit) (rest : List Placed) → All IsSlice ss → (h .tested ≡ true → RisingFrom n (h .rows) ss) → ((m : ℕ) → Accepts (Slices h m) rest)
     → Accepts (Slices h n) (map (placed place.Picture) ss ++ rest)
@@ -269,7 +260,7 @@ picture-passes h p rest k a = extras-pass h (p .extras) _ (k .extras) (first-sli
 pictures-pass : (h : SliceRule) (n : ℕ) (ps : List Picture) (rest : List Placed) → All (IsPicture h) ps → ((m : ℕ) → Accepts (Slices h m) rest) → Accepts (Slices h n) (concatMap pictureRow ps ++ rest)
 pictures-pass h n [] rest k a = a n
 pictures-pass h n (p ∷ ps) rest k a = subst (Accepts (Slices h n)) (sym (pictures-marks p ps rest))
-    (InPicture h, next-picture (k .0 .code) (k .0 .body), refl, picture-passes h p _ (k .0) (λ m. pictures-pass h m ps rest (k .1) a))
+    (InPicture h, next-picture (k .0 .kind) (k .0 .body), refl, picture-passes h p _ (k .0) (λ m. pictures-pass h m ps rest (k .1) a))
 
 first-pictures-pass : (h : SliceRule) (d : Bool) (ps : List Picture) (rest : List Placed) → FirstIsI ps → All (IsPicture h) ps → ((m : ℕ) → Accepts (Slices h m) rest)
     → Accepts (Head h d) (concatMap pictureRow ps ++ rest)
@@ -285,7 +276,7 @@ head-extras-pass h d (x ∷ xs) rest k one none a = by-kind d (k .0) none (λ d 
     Tail : Bool → Type 0
     Tail d = (d ≡ true → All (λ u. ¬ DisplayUnit u) xs) → Accepts (Head h d) (map (placed place.Head) xs ++ rest)
 
-    by-number : (d : Bool) → Dec (numberOf (x .body) ≡ Value 2) → x .code ≡ 0xB5 → Extension (x .body) → (numberOf (x .body) ≡ Value 2 → IsDisplay (x .body))
+    by-number : (d : Bool) → Dec (HasNumber (x .body) 2) → IsKind kind.Extension x → Extension (x .body) → (HasNumber (x .body) 2 → IsDisplay (x .body))
         → (d ≡ true → All (λ u. ¬ DisplayUnit u) (x ∷ xs)) → ((d : Bool) → Tail d) → Accepts (Head h d) (map (placed place.Head) (x ∷ xs) ++ rest)
     by-number false (yes n) c e g none t = (Head h true, display c e n (g n), rw c refl, t true (λ z. one .0 (c, n)))
     by-number true (yes n) c e g none t = absurd (none refl .0 (c, n))
@@ -303,9 +294,9 @@ group-passes g rest k a = head-extras-pass _ false (g .extras) _ (k .extras) (k 
 groups-pass : (h : SliceRule) (n : ℕ) (gs : List Group) (e : List StreamUnit) → All (IsGroup) gs → IsEnding e → Accepts (Slices h n) (concatMap groupRow gs ++ map (placed place.Picture) e)
 groups-pass h n [] e k i = ending-passes h n e i
 groups-pass h n (g ∷ gs) e k i = subst (Accepts (Slices h n)) (sym (groups-marks g gs (map (placed place.Picture) e)))
-    (Head (sliceRule (k .0 .header)) false, next-sequence (k .0 .code) (k .0 .body), refl, group-passes g _ (k .0) (λ h n. groups-pass h n gs e (k .1) i))
+    (Head (sliceRule (k .0 .header)) false, next-sequence (k .0 .kind) (k .0 .body), refl, group-passes g _ (k .0) (λ h n. groups-pass h n gs e (k .1) i))
 
 pub complete : (gs : List Group) (e : List StreamUnit) → gs ≢ [] → All (IsGroup) gs → IsEnding e → Accepts Start (concatMap groupRow gs ++ map (placed place.Picture) e)
 complete [] e n k i = absurd (n refl)
 complete (g ∷ gs) e n k i = subst (Accepts Start) (sym (groups-marks g gs (map (placed place.Picture) e)))
-    (Head (sliceRule (k .0 .header)) false, sequence (k .0 .code) (k .0 .body), refl, group-passes g _ (k .0) (λ h n. groups-pass h n gs e (k .1) i))
+    (Head (sliceRule (k .0 .header)) false, sequence (k .0 .kind) (k .0 .body), refl, group-passes g _ (k .0) (λ h n. groups-pass h n gs e (k .1) i))

@@ -1,4 +1,4 @@
--- A stream is filed exactly where it has a reading, and its rows are that reading's.
+-- A walk gives the units of a stream exactly where it has a reading, and they are that reading's; so are the rows.
 use Prim.Native.Nat.{ℕ, suc, _≤_, _<_, _+_}
 use mathlib.Core.Path.{_≡_, refl, sym, _∙_, ap, subst}
 use mathlib.Core.Logic.{_≢_, _⊎_, inl, inr, _↔_}
@@ -8,17 +8,21 @@ use lib.ListN.{length}
 use lib.Dec.{ltb}
 use borrow.Author.Tests.{ltb-false, le-ltb}
 use native.Mathlib.Omega.{arith}
-use Rattle.answers.specs.Answers.{Outcome, done, refused}
+use Rattle.answers.specs.Answers.{done}
+use Rattle.answers.specs.Results.{good, bad}
 use Rattle.bits.specs.Lists.{All}
 use Rattle.bits.proofs.Lists.{by-test}
-use Rattle.answers.proofs.Outcomes.{not-done}
+use Rattle.answers.proofs.Outcomes.{not-done, done-one}
+use Rattle.answers.proofs.Results.{not-good, good-same, map-good}
 use Rattle.layout.specs.declared.Place.{Place}
 use Rattle.layout.specs.declared.Place.the-variants as place
 use Rattle.startcode.specs.Prefix.{begins}
 use Rattle.grammar.specs.Lists.{concatMap}
 use Rattle.grammar.specs.Grammar.{StreamUnit, bytes, Picture, Group, Reading, pictureUnits, groupUnits, units, Reads}
-use Rattle.grammar.specs.Rows.{Row, Placed, placed, pictureRow, groupRow, placedUnits, rowLength, rowsFrom, rows}
-use Rattle.grammar.specs.Reader.{cut, placeIn, final, Step, go, stop, step, isNil, addRow, continue, rowAt, fileFrom, filingOfAny, filing}
+use Rattle.grammar.specs.Rows.{Row, Placed, placed, pictureRow, groupRow, placedUnits, rowsFrom, rows}
+use Rattle.grammar.specs.Reader.{cut, placeIn, final, step, Walk, addUnit, continue, walkFrom, walkOfAny, walk, said, filing}
+use Rattle.grammar.specs.declared.Step.{Step}
+use Rattle.grammar.specs.declared.Step.the-variants.{Go as go, Stop as stop}
 use Rattle.answers.specs.Limits.{longestStream}
 use Rattle.grammar.specs.declared.State.{State}
 use Rattle.grammar.specs.declared.State.the-variants.{Start}
@@ -44,62 +48,50 @@ group-units g = ap (λ (l : List StreamUnit). g .head ∷ l) (map-append unitOf 
 pub units-of-placed : (r : Reading) → map unitOf (placedUnits r) ≡ units r
 units-of-placed r = map-append unitOf (concatMap groupRow (r .groups)) (map (placed place.Picture) (r .ending)) ∙ rw (map-concat unitOf groupRow groupUnits group-units (r .groups), map-placed place.Picture (r .ending))
 
-added : (r : Row) (a : Outcome (List Row)) (rs : List Row) → addRow r a ≡ done rs → (rs′ : List Row) × (a ≡ done rs′) × (rs ≡ r ∷ rs′)
-added r (done rs′) rs e = (rs′, refl, cc)
-added r (refused n carried) rs e = not-done e
+-- ── units from a state on ──
 
--- what filing from a state on says of the chunks and the rows
-pub record Filed (q : State) (at : ℕ) (cs : List (List ℕ)) (rs : List Row) : Type 0 where
-  pub ms : List Placed
-  pub chunks-are : cs ≡ map chunk (map unitOf ms)
-  pub accepts : Accepts q ms
-  pub rows-are : rs ≡ rowsFrom at ms
+-- what a walk from a state on says of the chunks and the units
+record Walked (q : State) (cs : List (List ℕ)) (ms : List Placed) : Type 0 where
+  chunks-are : cs ≡ map chunk (map unitOf ms)
+  accepts : Accepts q ms
 
-more-filed : (q q′ : State) (at : ℕ) (u : StreamUnit) (cs : List (List ℕ)) (rs rs′ : List Row) → step q u ≡ go q′ → rs ≡ rowAt q at u ∷ rs′
-    → Filed q′ (at + length (bytes u)) cs rs′ → Filed q at (chunk u ∷ cs) rs
-more-filed q q′ at u cs rs rs′ s e f = record {
-  ms = placed (placeIn q (u .code)) u ∷ f .ms;
-  chunks-are = ap (λ (l : List (List ℕ)). chunk u ∷ l) (f .chunks-are);
-  accepts = (q′, step-sound q u q′ s, refl, f .accepts);
-  rows-are = e ∙ ap (λ (l : List Row). rowAt q at u ∷ l) (f .rows-are);
-}
+more-walked : (q q′ : State) (u : StreamUnit) (cs : List (List ℕ)) (ms ms′ : List Placed) → step q u ≡ go q′ → placed (placeIn q u) u ∷ ms′ ≡ ms → Walked q′ cs ms′ → Walked q (chunk u ∷ cs) ms
+more-walked q q′ u cs ms ms′ s e w = subst (Walked q (chunk u ∷ cs)) e
+    (record { chunks-are = ap (λ (l : List (List ℕ)). chunk u ∷ l) (w .chunks-are); accepts = (q′, step-sound q u q′ s, refl, w .accepts) })
 
-filed-sound : (cs : List (List ℕ)) (q : State) (at : ℕ) (rs : List Row) → fileFrom cs q at ≡ done rs → Filed q at cs rs
-unfolding fileFrom
-filed-sound [] q at rs e = by-test (final q) (λ t. let z : done [] ≡ done rs = rw t at e in record { ms = []; chunks-are = refl; accepts = t; rows-are = cc }) (λ f. not-done (rw f at e))
-filed-sound ([] ∷ cs) q at rs e = not-done e
-filed-sound ((c ∷ b) ∷ cs) q at rs e = by-step (step q u) refl (λ q′ rs′. filed-sound cs q′ (at + length (bytes u)) rs′) e
+walked-sound : (cs : List (List ℕ)) (q : State) (at : ℕ) (ms : List Placed) → walkFrom cs q at ≡ good ms → Walked q cs ms
+unfolding walkFrom
+walked-sound [] q at ms e = by-test (final q) (λ t. let n : [] ≡ ms = good-same (rw t at e) in subst (Walked q []) n (record { chunks-are = refl; accepts = t })) (λ f. not-good (rw f at e))
+walked-sound ([] ∷ cs) q at ms e = not-good e
+walked-sound ((c ∷ b) ∷ cs) q at ms e = by-step (step q u) refl (λ q′ ms′. walked-sound cs q′ (at + length (bytes u)) ms′) e
   where
     u : StreamUnit
     u = record { code = c; body = b }
 
-    by-step : (s : Step) → step q u ≡ s → ((q′ : State) (rs′ : List Row) → fileFrom cs q′ (at + length (bytes u)) ≡ done rs′ → Filed q′ (at + length (bytes u)) cs rs′)
-        → continue s at (λ q′. addRow (rowAt q at u) (fileFrom cs q′ (at + length (bytes u)))) ≡ done rs → Filed q at ((c ∷ b) ∷ cs) rs
-    by-step (stop n) s ih e = not-done e
-    by-step (go q′) s ih e = let a = added _ _ rs e in more-filed q q′ at u cs rs (a .0) s (a .2) (ih q′ (a .0) (a .1))
+    by-step : (s : Step) → step q u ≡ s → ((q′ : State) (ms′ : List Placed) → walkFrom cs q′ (at + length (bytes u)) ≡ good ms′ → Walked q′ cs ms′)
+        → continue s at (λ q′. addUnit (placed (placeIn q u) u) (walkFrom cs q′ (at + length (bytes u)))) ≡ good ms → Walked q ((c ∷ b) ∷ cs) ms
+    by-step (stop why) s ih e = not-good e
+    by-step (go q′) s ih e = let a = map-good (λ ms. placed (placeIn q u) u ∷ ms) (walkFrom cs q′ (at + length (bytes u))) ms e in more-walked q q′ u cs ms (a .0) s (a .2) (ih q′ (a .0) (a .1))
 
-row-is : (m : Placed) (q : State) (at : ℕ) → m .place ≡ placeIn q (m .unit .code) → rowAt q at (m .unit) ≡ record { code = m .unit .code; offset = at; length = rowLength m }
-row-is m q at e = ap (λ (b : Place). record { code = m .unit .code; offset = at; length = rowLength (placed b (m .unit)) }) (sym e)
-
-filed-complete : (ms : List Placed) (q : State) (at : ℕ) → Accepts q ms → fileFrom (map chunk (map unitOf ms)) q at ≡ done (rowsFrom at ms)
-unfolding fileFrom
-filed-complete [] q at a = rw a refl
-filed-complete (m ∷ ms) q at a = rw (step-complete (a .1))
-    (ap (addRow (rowAt q at (m .unit))) (filed-complete ms (a .0) (at + length (bytes (m .unit))) (a .3))
-    ∙ ap (λ (r : Row). done (r ∷ rowsFrom (at + length (bytes (m .unit))) ms)) (row-is m q at (a .2)))
+walked-complete : (ms : List Placed) (q : State) (at : ℕ) → Accepts q ms → walkFrom (map chunk (map unitOf ms)) q at ≡ good ms
+unfolding walkFrom
+walked-complete [] q at a = rw a refl
+walked-complete (m ∷ ms) q at a = rw (step-complete (a .1))
+    (ap (addUnit (placed (placeIn q (m .unit)) (m .unit))) (walked-complete ms (a .0) (at + length (bytes (m .unit))) (a .3))
+    ∙ ap (λ (b : Place). good (placed b (m .unit) ∷ ms)) (sym (a .2)))
 
 -- ── streams of any length ──
 
-filed-any : (s : List ℕ) (rs : List Row) → filingOfAny s ≡ done rs → (r : Reading) × Reads s r × (rs ≡ rows r)
-unfolding filingOfAny
-filed-any s rs e = by-test (begins s) (λ b. from-chunks b (filed-sound (cut s .chunks) Start 0 rs (rw b at e))) (λ f. not-done (rw f at e))
+any-sound : (s : List ℕ) (ms : List Placed) → walkOfAny s ≡ good ms → (r : Reading) × Reads s r × (ms ≡ placedUnits r)
+unfolding walkOfAny
+any-sound s ms e = by-test (begins s) (λ b. from-chunks b (walked-sound (cut s .chunks) Start 0 ms (rw b at e))) (λ f. not-good (rw f at e))
   where
-    from-chunks : begins s ≡ true → Filed Start 0 (cut s .chunks) rs → (r : Reading) × Reads s r × (rs ≡ rows r)
+    from-chunks : begins s ≡ true → Walked Start (cut s .chunks) ms → (r : Reading) × Reads s r × (ms ≡ placedUnits r)
     from-chunks b f =
-        let t = sound (f .ms) Start (f .accepts) in
+        let t = sound ms Start (f .accepts) in
         let r : Reading = record { groups = t .rest .gs; ending = t .rest .e } in
         let c = uncut s (units r) b (f .chunks-are ∙ ap (λ (l : List Placed). map chunk (map unitOf l)) (t .rest .is) ∙ ap (map chunk) (units-of-placed r)) in
-        (r, record { stream-is = c .0; alone = c .1; some-group = t .some-group; groups = t .rest .groups; ending = t .rest .ending }, f .rows-are ∙ ap (rowsFrom 0) (t .rest .is))
+        (r, record { stream-is = c .0; alone = c .1; some-group = t .some-group; groups = t .rest .groups; ending = t .rest .ending }, t .rest .is)
 
 begun : (s : List ℕ) (r : Reading) → Reads s r → begins s ≡ true
 unfolding begins
@@ -109,24 +101,33 @@ begun s r h = subst (λ (l : List ℕ). begins l ≡ true) (h .stream-is) (by-gr
     by-groups [] n = absurd (n refl)
     by-groups (g ∷ gs) n = refl
 
-any-filed : (s : List ℕ) (r : Reading) → Reads s r → filingOfAny s ≡ done (rows r)
-unfolding filingOfAny
-any-filed s r h =
+any-complete : (s : List ℕ) (r : Reading) → Reads s r → walkOfAny s ≡ good (placedUnits r)
+unfolding walkOfAny
+any-complete s r h =
     rw (begun s r h)
-    (ap (λ (cs : List (List ℕ)). fileFrom cs Start 0) chunks-are ∙ filed-complete (placedUnits r) Start 0 (complete (r .groups) (r .ending) (h .some-group) (h .groups) (h .ending)))
+    (ap (λ (cs : List (List ℕ)). walkFrom cs Start 0) chunks-are ∙ walked-complete (placedUnits r) Start 0 (complete (r .groups) (r .ending) (h .some-group) (h .groups) (h .ending)))
   where
     chunks-are : cut s .chunks ≡ map chunk (map unitOf (placedUnits r))
     chunks-are = rw (← h .stream-is, cut-units (units r) (h .alone), units-of-placed r)
 
--- a stream of any length is filed with these rows exactly where it has a reading whose rows they are
-pub any-iff : (s : List ℕ) (rs : List Row) → (filingOfAny s ≡ done rs) ↔ ((r : Reading) × Reads s r × (rs ≡ rows r))
-any-iff s rs = (filed-any s rs, λ h. any-filed s (h .0) (h .1) ∙ ap done (sym (h .2)))
-
 -- ── streams within the limit ──
+
+-- a walk gives these units exactly where the stream has a reading whose units they are
+pub walked-iff : (s : List ℕ) (ms : List Placed) → (walk s ≡ good ms) ↔ ((length s ≤ longestStream) × ((r : Reading) × Reads s r × (ms ≡ placedUnits r)))
+unfolding walk
+walked-iff s ms = (
+  (λ e. by-test (ltb longestStream (length s)) (λ t. not-good (rw t at e)) (λ f. (ltb-false _ _ f, any-sound s ms (rw f at e)))),
+  λ h. rw (le-ltb longestStream (length s) (h .0)) (any-complete s (h .1 .0) (h .1 .1) ∙ ap good (sym (h .1 .2))),
+)
+
+-- what is said of a walk that came to its end
+pub said-done : {A : Type 0} (view : List Placed → A) (w : Walk) (a : A) → said view w ≡ done a → (ms : List Placed) × (w ≡ good ms) × (view ms ≡ a)
+said-done view (good ms) a e = (ms, refl, done-one e)
+said-done view (bad s) a e = not-done e
 
 pub filed-iff : (s : List ℕ) (rs : List Row) → (filing s ≡ done rs) ↔ ((length s ≤ longestStream) × ((r : Reading) × Reads s r × (rs ≡ rows r)))
 unfolding filing
 filed-iff s rs = (
-  (λ e. by-test (ltb longestStream (length s)) (λ t. not-done (rw t at e)) (λ f. (ltb-false _ _ f, any-iff s rs .0 (rw f at e)))),
-  λ h. rw (le-ltb longestStream (length s) (h .0)) (any-iff s rs .1 (h .1)),
+  (λ e. let d = said-done (rowsFrom 0) (walk s) rs e in let h = walked-iff s (d .0) .0 (d .1) in (h .0, (h .1 .0, h .1 .1, sym (d .2) ∙ ap (rowsFrom 0) (h .1 .2)))),
+  λ h. ap (said (rowsFrom 0)) (walked-iff s (placedUnits (h .1 .0)) .1 (h .0, (h .1 .0, h .1 .1, refl))) ∙ ap done (sym (h .1 .2)),
 )

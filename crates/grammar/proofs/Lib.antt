@@ -1,9 +1,11 @@
+pub mod KindLaws
 pub mod Cutting
 pub mod Unique
 pub mod Division
 pub mod Bodies
 pub mod Steps
 pub mod Filing
+pub mod RowLengths
 pub mod Walk
 pub mod Sentences
 pub mod Shapes

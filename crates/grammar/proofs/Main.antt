@@ -2,36 +2,65 @@
 use Prim.Native.Nat.{ℕ, _≤_}
 use mathlib.Core.Path.{_≡_}
 use mathlib.Core.Logic.{_↔_}
-use mathlib.Core.List.{List, [], _∷_}
+use mathlib.Core.List.{List, [], _∷_, map}
 use lib.ListN.{length}
 use Rattle.answers.specs.Answers.{done, refused}
-use Rattle.grammar.specs.Grammar.{Reading, Reads}
-use Rattle.grammar.specs.Rows.{Row, rows}
-use Rattle.grammar.specs.Reader.{filing, filingInto}
 use Rattle.answers.specs.Limits.{longestStream}
+use Rattle.answers.specs.Results.{good}
+use Rattle.grammar.specs.Grammar.{Reading, Reads, units}
+use Rattle.grammar.specs.Rows.{Row, Placed, placedUnits, rows, rowLength, LengthIs}
+use Rattle.grammar.specs.Reasons.{Numbered}
+use Rattle.grammar.specs.Reader.{stopAt, walk, walkInto, filing, filingInto}
 use Rattle.grammar.specs.Refusals.{Refuses, RefusesInto}
+use Rattle.grammar.specs.declared.Reason.{Reason}
 use Rattle.grammar.proofs.Filing as filed
 use Rattle.grammar.proofs.Refusals as refusals
+use Rattle.grammar.proofs.RowLengths as lengths
 use Rattle.grammar.proofs.Unique as unique
+
+-- ── readings ──
 
 -- A stream has at most one reading.
 pub same-reading : (stream : List ℕ) (r q : Reading) → Reads stream r → Reads stream q → r ≡ q
 same-reading = unique.same-reading
 
--- It is filed exactly where it is within the limit and has a reading, and its rows are that reading's.
+-- The placed units of a reading are its units, in their order.
+pub units-of-placed : (r : Reading) → map (λ m. m .unit) (placedUnits r) ≡ units r
+units-of-placed = filed.units-of-placed
+
+-- A row's length is that of the whole body of user data and opaque extensions; of any other it is that of the body without its
+-- trailing zero bytes.
+pub length-is : (p : Placed) → LengthIs p (rowLength p)
+length-is = lengths.length-is
+
+-- ── when a stream is filed ──
+
+-- The walk gives units exactly where the stream is within the limit and has a reading, and they are that reading's.
+pub walked-iff : (stream : List ℕ) (ms : List Placed) → (walk stream ≡ good ms) ↔ ((length stream ≤ longestStream) × ((r : Reading) × Reads stream r × (ms ≡ placedUnits r)))
+walked-iff = filed.walked-iff
+
+-- It is filed exactly there, and its rows are that reading's.
 pub filed-iff : (stream : List ℕ) (rs : List Row) → (filing stream ≡ done rs) ↔ ((length stream ≤ longestStream) × ((r : Reading) × Reads stream r × (rs ≡ rows r)))
 filed-iff = filed.filed-iff
 
--- It is refused with a number and a place exactly where document 01's refusals say so.
-pub refused-iff : (stream : List ℕ) (n at : ℕ) → (filing stream ≡ refused n (at ∷ [])) ↔ Refuses stream n at
+-- ── when it is refused ──
+
+-- The walk stops for a reason, with the body's fault whole, and at a place exactly where document 01's refusals say so.
+pub stopped-iff : (stream : List ℕ) (why : Reason) (at : ℕ) → (walk stream ≡ stopAt why at) ↔ Refuses stream why at
+stopped-iff = refusals.stopped-iff
+
+-- The same with the words lent, so with FULL.
+pub into-stopped-iff : (stream : List ℕ) (lent : ℕ) (why : Reason) (at : ℕ) → (walkInto stream lent ≡ stopAt why at) ↔ RefusesInto stream lent why at
+into-stopped-iff = refusals.into-stopped-iff
+
+-- The stream is refused with the reason's number, and with one place.
+pub refused-iff : (stream : List ℕ) (n at : ℕ) → (filing stream ≡ refused n (at ∷ [])) ↔ Numbered (Refuses stream) n at
 refused-iff = refusals.refused-iff
 
--- Every refusal has one place.
 pub one-place : (stream : List ℕ) (n : ℕ) (carried : List ℕ) → filing stream ≡ refused n carried → (at : ℕ) × (carried ≡ at ∷ [])
 one-place = refusals.one-place
 
--- The same with the words lent, so with FULL.
-pub into-iff : (stream : List ℕ) (lent n at : ℕ) → (filingInto stream lent ≡ refused n (at ∷ [])) ↔ RefusesInto stream lent n at
+pub into-iff : (stream : List ℕ) (lent n at : ℕ) → (filingInto stream lent ≡ refused n (at ∷ [])) ↔ Numbered (RefusesInto stream lent) n at
 into-iff = refusals.into-iff
 
 pub into-one-place : (stream : List ℕ) (lent n : ℕ) (carried : List ℕ) → filingInto stream lent ≡ refused n carried → (at : ℕ) × (carried ≡ at ∷ [])

@@ -6,6 +6,7 @@ use mathlib.Core.List.{List, [], _∷_, _++_, map, append-assoc, append-nil}
 use mathlib.Core.Bool.{Bool, true, false}
 use mathlib.Core.Option.{some}
 use native.Mathlib.Omega.{arith}
+use Rattle.answers.specs.Answers.{Outcome, done}
 use Rattle.bits.specs.Lists.{All}
 use Rattle.bits.specs.Bits.{bitsIn, bitsOf, readOn, readAt}
 use Rattle.bits.proofs.Lists.{all-append, absent}
@@ -19,17 +20,22 @@ use Rattle.layout.specs.declared.Place.the-variants as place
 use Rattle.layout.specs.declared.SequenceHeader.{SequenceHeader}
 use Rattle.macroblocks.specs.Macroblocks.{macroblockRows}
 use Rattle.startcode.specs.Prefix.{begins}
+use Rattle.startcode.specs.Kinds.{kindOf}
+use Rattle.startcode.specs.declared.Kind.{Kind}
+use Rattle.startcode.specs.declared.Kind.the-variants as kind
 use Rattle.grammar.specs.Lists.{concatMap}
-use Rattle.grammar.specs.Grammar.{StreamUnit, bytes, Alone, Reading, units, Nonzero, IsHeader, PictureExtra, DisplayUnit, endUnit, sliceRule}
-use Rattle.grammar.specs.Reader.{cut, placeIn}
+use Rattle.grammar.specs.Grammar.{StreamUnit, bytes, IsKind, Alone, Reading, units, Nonzero, IsHeader, PictureExtra, IsPictureHead, DisplayUnit, sliceRule}
+use Rattle.grammar.specs.Reader.{cut, sameKind, placeIn}
 use Rattle.grammar.specs.Rows.{Placed, placed, placedUnits}
-use Rattle.grammar.specs.Refusals.{IsSentence, BeginsSentence, Last, IsPictureCode, IsHeaderCode, InHead, AfterPicture, InGroup, NotGreater}
+use Rattle.grammar.specs.Refusals.{IsSentence, BeginsSentence, Last, IsHead, InHead, AfterPicture, InGroup, NotGreater}
 use Rattle.grammar.specs.declared.SliceRule.{SliceRule}
 use Rattle.grammar.specs.declared.State.{State}
 use Rattle.grammar.specs.declared.State.the-variants.{Start, Head, Picture as InPicture, Slices, Ended, Closed}
+use Rattle.grammar.proofs.KindLaws.{apart}
 use Rattle.grammar.proofs.Bodies.{header-good}
 use Rattle.grammar.proofs.Cutting.{chunk, uncut}
 use Rattle.grammar.proofs.Division.{Goes, sequence, user, extension, display, first-picture, extra, first-slice, next-slice, next-picture, next-sequence, end, edit, end-edit, Accepts, sound, complete}
+use Rattle.grammar.proofs.Steps.{Some}
 use Rattle.grammar.proofs.Filing.{unitOf, units-of-placed}
 use Rattle.grammar.proofs.Unique.{Shorter, compare-prefixes}
 
@@ -38,43 +44,39 @@ pub data At : List StreamUnit → State → Type 0 where
   start : At [] Start
   more : {us : List StreamUnit} {q q′ : State} {u : StreamUnit} → At us q → Goes q u q′ → At (us ++ u ∷ []) q′
 
--- ── the last unit with a code ──
+-- ── the last such unit ──
 
-last-new : {Code : ℕ → Type 0} (us : List StreamUnit) (u : StreamUnit) → Code (u .code) → Last Code (us ++ u ∷ []) u []
-last-new us u c = record { before = us; is = refl; code = c; last = tt }
-
-last-more : {Code : ℕ → Type 0} {us after : List StreamUnit} {v : StreamUnit} (u : StreamUnit) → ¬ Code (u .code) → Last Code us v after → Last Code (us ++ u ∷ []) v (after ++ u ∷ [])
-last-more {Code} {us} {after} {v} u n l = record {
-  before = l .before;
-  is = ap (λ (l : List StreamUnit). l ++ u ∷ []) (l .is) ∙ append-assoc (l .before) (v ∷ after) (u ∷ []);
-  code = l .code;
-  last = all-append (λ v. ¬ Code (v .code)) after (u ∷ []) (l .last) (n, tt);
-}
-
-shorter-same : (Code : ℕ → Type 0) {b c xs ys : List StreamUnit} {u v : StreamUnit} → All (λ v. ¬ Code (v .code)) xs → Code (v .code) → Shorter b (u ∷ xs) c (v ∷ ys) → (u ≡ v) × (xs ≡ ys)
-shorter-same Code {b} {c} {xs} {ys} {u} {v} a k s = by-mid (s .mid) (s .rest)
+shorter-same : (Is : StreamUnit → Type 0) {b c xs ys : List StreamUnit} {u v : StreamUnit} → All (λ v. ¬ Is v) xs → Is v → Shorter b (u ∷ xs) c (v ∷ ys) → (u ≡ v) × (xs ≡ ys)
+shorter-same Is {b} {c} {xs} {ys} {u} {v} a k s = by-mid (s .mid) (s .rest)
   where
     by-mid : (mid : List StreamUnit) → u ∷ xs ≡ mid ++ v ∷ ys → (u ≡ v) × (xs ≡ ys)
     by-mid [] e = (cc, cc)
-    by-mid (m ∷ mid) e = let f : xs ≡ mid ++ v ∷ ys = cc in absurd (absent (λ v. Code (v .code)) mid v ys (rw f at a) k)
+    by-mid (m ∷ mid) e = let f : xs ≡ mid ++ v ∷ ys = cc in absurd (absent Is mid v ys (rw f at a) k)
 
-pub last-same : {Code : ℕ → Type 0} {us xs ys : List StreamUnit} {u v : StreamUnit} → Last Code us u xs → Last Code us v ys → (u ≡ v) × (xs ≡ ys)
-last-same {Code} {us} {xs} {ys} {u} {v} l m = elim (compare-prefixes (l .before) (u ∷ xs) (m .before) (v ∷ ys) (sym (l .is) ∙ m .is)) [
-  | inl s ↦ shorter-same Code (l .last) (m .code) s
-  | inr s ↦ let r = shorter-same Code (m .last) (l .code) s in (sym (r .0), sym (r .1))
-]
+module _ {Is : StreamUnit → Type 0} where
+  last-new : (us : List StreamUnit) (u : StreamUnit) → Is u → Last Is (us ++ u ∷ []) u []
+  last-new us u i = record { before = us; all = refl; is = i; last = tt }
+
+  last-more : {us after : List StreamUnit} {v : StreamUnit} (u : StreamUnit) → ¬ Is u → Last Is us v after → Last Is (us ++ u ∷ []) v (after ++ u ∷ [])
+  last-more {us} {after} {v} u n l = record {
+    before = l .before;
+    all = ap (λ (l : List StreamUnit). l ++ u ∷ []) (l .all) ∙ append-assoc (l .before) (v ∷ after) (u ∷ []);
+    is = l .is;
+    last = all-append (λ v. ¬ Is v) after (u ∷ []) (l .last) (n, tt);
+  }
+
+  pub last-same : {us xs ys : List StreamUnit} {u v : StreamUnit} → Last Is us u xs → Last Is us v ys → (u ≡ v) × (xs ≡ ys)
+  last-same {us} {xs} {ys} {u} {v} l m = elim (compare-prefixes (l .before) (u ∷ xs) (m .before) (v ∷ ys) (sym (l .all) ∙ m .all)) [
+    | inl s ↦ shorter-same Is (l .last) (m .is) s
+    | inr s ↦ let r = shorter-same Is (m .last) (l .is) s in (sym (r .0), sym (r .1))
+  ]
 
 same-end : (b c : List StreamUnit) (u v : StreamUnit) → b ++ u ∷ [] ≡ c ++ v ∷ [] → u ≡ v
 same-end b c u v e = let l : Last (λ c. Unit {0}) (b ++ u ∷ []) u [] = last-new b u tt in
-    let m : Last (λ c. Unit {0}) (b ++ u ∷ []) v [] = record { before = c; is = e; code = tt; last = tt } in
+    let m : Last (λ c. Unit {0}) (b ++ u ∷ []) v [] = record { before = c; all = e; is = tt; last = tt } in
     last-same l m .0
 
 -- ── what a state says of the units before it ──
-
--- P holds of some element
-abbrev pub Some : {A : Type 0} → (A → Type 0) → List A → Type 0
-Some P [] = ⊥
-Some P (x ∷ xs) = P x ⊎ Some P xs
 
 -- the rule is that of the group's header
 pub record Ruled (us : List StreamUnit) (rule : SliceRule) : Type 0 where
@@ -98,26 +100,30 @@ Says us (Slices rule least) = Ruled us rule × Least us least
 Says us Ended = Unit {0}
 Says us Closed = Unit {0}
 
-new-rule : (us : List StreamUnit) (u : StreamUnit) (header : SequenceHeader) → u .code ≡ 0xB0 → IsHeader (u .body) header → Ruled (us ++ u ∷ []) (sliceRule header)
+new-rule : (us : List StreamUnit) (u : StreamUnit) (header : SequenceHeader) → IsKind kind.SequenceHeader u → IsHeader (u .body) header → Ruled (us ++ u ∷ []) (sliceRule header)
 new-rule us u header c k = record { header = header; group = record { head = u; after = []; last = last-new us u c; body = k }; is = refl }
 
-same-rule : {us : List StreamUnit} {rule : SliceRule} (u : StreamUnit) → u .code ≢ 0xB0 → Ruled us rule → Ruled (us ++ u ∷ []) rule
+same-rule : {us : List StreamUnit} {rule : SliceRule} (u : StreamUnit) → ¬ IsKind kind.SequenceHeader u → Ruled us rule → Ruled (us ++ u ∷ []) rule
 same-rule u n r = record { header = r .header; group = record { head = r .group .head; after = r .group .after ++ u ∷ []; last = last-more u n (r .group .last); body = r .group .body }; is = r .is }
 
-not-header : (c : ℕ) → c ≢ 0xB0 → c ≢ 0xB3 → c ≢ 0xB6 → ¬ IsHeaderCode c
-not-header c n m k (inl e) = n e
-not-header c n m k (inr (inl e)) = m e
-not-header c n m k (inr (inr e)) = k e
+-- a unit of another kind is no header
+not-kind : (j : Kind) {k : Kind} (u : StreamUnit) → IsKind k u → sameKind k j ≡ false → ¬ IsKind j u
+not-kind j {k} u e d f = apart k j d e f
+
+not-head : {k : Kind} (u : StreamUnit) → IsKind k u → sameKind k kind.SequenceHeader ≡ false → sameKind k kind.IPicture ≡ false → sameKind k kind.PBPicture ≡ false → ¬ IsHead u
+not-head {k} u e s i p (inl f) = apart k kind.SequenceHeader s e f
+not-head {k} u e s i p (inr (inl f)) = apart k kind.IPicture i e f
+not-head {k} u e s i p (inr (inr f)) = apart k kind.PBPicture p e f
 
 -- the last unit is no slice
-no-slice : (us : List StreamUnit) (v : StreamUnit) → 0xB0 ≤ v .code → Least (us ++ v ∷ []) 0
+no-slice : (us : List StreamUnit) (v : StreamUnit) → ¬ IsKind kind.Slice v → Least (us ++ v ∷ []) 0
 no-slice us v h u = (
-  (λ g. let e : v ≡ g .1 = same-end us (g .0) v (g .1) (g .2) in let l : g .1 .code < 0xB0 = g .3 in let k : v .code ≡ g .1 .code = ap (λ (u : StreamUnit). u .code) e in absurd (omega arith)),
+  (λ g. let e : v ≡ g .1 = same-end us (g .0) v (g .1) (g .2) in absurd (h (ap (λ (u : StreamUnit). kindOf (u .code)) e ∙ g .3))),
   λ l. absurd (omega arith),
 )
 
 -- the last unit is a slice
-a-slice : (us : List StreamUnit) (v : StreamUnit) → v .code < 0xB0 → Least (us ++ v ∷ []) (v .code + 1)
+a-slice : (us : List StreamUnit) (v : StreamUnit) → IsKind kind.Slice v → Least (us ++ v ∷ []) (v .code + 1)
 a-slice us v h u = (
   (λ g. let e : v ≡ g .1 = same-end us (g .0) v (g .1) (g .2) in let l : u .code ≤ g .1 .code = g .4 in let k : v .code ≡ g .1 .code = ap (λ (u : StreamUnit). u .code) e in omega arith),
   λ l. (us, v, refl, h, omega arith),
@@ -137,54 +143,44 @@ some-split P (x ∷ l) u (inl p) = inl (inl p)
 some-split P (x ∷ l) u (inr s) = elim (some-split P l u s) [ inl k ↦ inl (inr k) | inr p ↦ inr p ]
 
 -- a unit of a head that is no display extension
-same-head : {us : List StreamUnit} {d : Bool} (u : StreamUnit) → ¬ IsHeaderCode (u .code) → ¬ DisplayUnit u → HeadSays us d → HeadSays (us ++ u ∷ []) d
+same-head : {us : List StreamUnit} {d : Bool} (u : StreamUnit) → ¬ IsHead u → ¬ DisplayUnit u → HeadSays us d → HeadSays (us ++ u ∷ []) d
 same-head u n k h = (
   h .0 ++ u ∷ [],
   (h .1 .0, last-more u n (h .1 .1), h .1 .2),
   ((λ t. some-before DisplayUnit (h .0) u (h .2 .0 t)), λ s. elim (some-split DisplayUnit (h .0) u s) [ inl b ↦ h .2 .1 b | inr p ↦ absurd (k p) ]),
 )
 
-new-head : (us : List StreamUnit) (u : StreamUnit) → u .code ≡ 0xB0 → HeadSays (us ++ u ∷ []) false
+new-head : (us : List StreamUnit) (u : StreamUnit) → IsKind kind.SequenceHeader u → HeadSays (us ++ u ∷ []) false
 new-head us u c = ([], (u, last-new us u (inl c), c), ((λ t. let z : _≡_ {A = ℕ} 0 1 = cc in absurd (omega arith)), λ s. absurd s))
 
-new-picture : {us : List StreamUnit} {rule : SliceRule} (u : StreamUnit) → IsPictureCode (u .code) → Ruled us rule → Says (us ++ u ∷ []) (InPicture rule)
-new-picture {us} u c r = (same-rule u (not-sequence c) r, (u, [], last-new us u (inr c), c), no-slice us u (far c))
+new-picture : {us : List StreamUnit} {rule : SliceRule} (u : StreamUnit) → IsPictureHead u → Ruled us rule → Says (us ++ u ∷ []) (InPicture rule)
+new-picture {us} u c r = (same-rule u (other kind.SequenceHeader refl refl c) r, (u, [], last-new us u (inr c), c), no-slice us u (other kind.Slice refl refl c))
   where
-    not-sequence : IsPictureCode (u .code) → u .code ≢ 0xB0
-    not-sequence (inl c) e = omega arith
-    not-sequence (inr c) e = omega arith
+    other : (k : Kind) → sameKind kind.IPicture k ≡ false → sameKind kind.PBPicture k ≡ false → IsPictureHead u → ¬ IsKind k u
+    other k d f (inl c) = not-kind k u c d
+    other k d f (inr c) = not-kind k u c f
 
-    far : IsPictureCode (u .code) → 0xB0 ≤ u .code
-    far (inl c) = omega arith
-    far (inr c) = omega arith
-
-picture-extra : {us : List StreamUnit} {rule : SliceRule} (u : StreamUnit) → (u .code ≡ 0xB2) ⊎ (u .code ≡ 0xB5) → Says us (InPicture rule) → Says (us ++ u ∷ []) (InPicture rule)
-picture-extra {us} u c s = let n = apart c in (
-  same-rule u (n .0) (s .0),
-  (s .1 .0, s .1 .1 ++ u ∷ [], last-more u (n .1) (s .1 .2), s .1 .3),
-  no-slice us u (n .2),
+-- user data or an extension
+picture-extra : {us : List StreamUnit} {rule : SliceRule} {k : Kind} (u : StreamUnit) → IsKind k u → ¬ IsHead u → ¬ IsKind kind.Slice u → Says us (InPicture rule) → Says (us ++ u ∷ []) (InPicture rule)
+picture-extra {us} u c n m s = (
+  same-rule u (λ e. n (inl e)) (s .0),
+  (s .1 .0, s .1 .1 ++ u ∷ [], last-more u n (s .1 .2), s .1 .3),
+  no-slice us u m,
 )
-  where
-    apart : (u .code ≡ 0xB2) ⊎ (u .code ≡ 0xB5) → (u .code ≢ 0xB0) × (¬ IsHeaderCode (u .code)) × (0xB0 ≤ u .code)
-    apart (inl c) = (omega arith, not-header (u .code) (omega arith) (omega arith) (omega arith), omega arith)
-    apart (inr c) = (omega arith, not-header (u .code) (omega arith) (omega arith) (omega arith), omega arith)
-
-extra-code : (u : StreamUnit) → PictureExtra u → (u .code ≡ 0xB2) ⊎ (u .code ≡ 0xB5)
-extra-code u (inl c) = inl c
-extra-code u (inr k) = inr (k .0)
 
 goes-says : {q q′ : State} {u : StreamUnit} → Goes q u q′ → (us : List StreamUnit) → Says us q → Says (us ++ u ∷ []) q′
 goes-says (sequence {u} {header} c k) us s = (new-rule us u header c k, new-head us u c)
-goes-says (user {u} c) us s = (same-rule u (omega arith) (s .0), same-head u (not-header (u .code) (omega arith) (omega arith) (omega arith)) (λ d. omega arith) (s .1))
-goes-says (extension {u} c k n) us s = (same-rule u (omega arith) (s .0), same-head u (not-header (u .code) (omega arith) (omega arith) (omega arith)) (λ d. n (d .1)) (s .1))
+goes-says (user {u} c) us s = (same-rule u (not-kind kind.SequenceHeader u c refl) (s .0), same-head u (not-head u c refl refl refl) (λ d. apart kind.UserData kind.Extension refl c (d .0)) (s .1))
+goes-says (extension {u} c k n) us s = (same-rule u (not-kind kind.SequenceHeader u c refl) (s .0), same-head u (not-head u c refl refl refl) (λ d. n (d .1)) (s .1))
 goes-says (display {u} c k n d) us s = let h = s .1 in (
-  same-rule u (omega arith) (s .0),
-  (h .0 ++ u ∷ [], (h .1 .0, last-more u (not-header (u .code) (omega arith) (omega arith) (omega arith)) (h .1 .1), h .1 .2), ((λ t. some-last DisplayUnit (h .0) u (c, n)), λ s. refl)),
+  same-rule u (not-kind kind.SequenceHeader u c refl) (s .0),
+  (h .0 ++ u ∷ [], (h .1 .0, last-more u (not-head u c refl refl refl) (h .1 .1), h .1 .2), ((λ t. some-last DisplayUnit (h .0) u (c, n)), λ s. refl)),
 )
 goes-says (first-picture {u} c k) us s = new-picture u (inl c) (s .0)
-goes-says (extra {u} k) us s = picture-extra u (extra-code u k) s
-goes-says (first-slice {u} k o) us s = (same-rule u (omega (arith, k .0)) (s .0), a-slice us u (k .0))
-goes-says (next-slice {u} k o) us s = (same-rule u (omega (arith, k .0)) (s .0), a-slice us u (k .0))
+goes-says (extra {u} (inl c)) us s = picture-extra u c (not-head u c refl refl refl) (not-kind kind.Slice u c refl) s
+goes-says (extra {u} (inr k)) us s = picture-extra u (k .0) (not-head u (k .0) refl refl refl) (not-kind kind.Slice u (k .0) refl) s
+goes-says (first-slice {u} k o) us s = (same-rule u (not-kind kind.SequenceHeader u (k .0) refl) (s .0), a-slice us u (k .0))
+goes-says (next-slice {u} k o) us s = (same-rule u (not-kind kind.SequenceHeader u (k .0) refl) (s .0), a-slice us u (k .0))
 goes-says (next-picture {u} c k) us s = new-picture u c (s .0)
 goes-says (next-sequence {u} {header = header} c k) us s = (new-rule us u header c k, new-head us u c)
 goes-says (end c k) us s = tt
@@ -227,7 +223,7 @@ accepted-sentence ms a k =
 
 pub sentence-from : {us : List StreamUnit} {q : State} → At us q → (ms : List Placed) → Accepts q ms → All Alone (us ++ map unitOf ms) → IsSentence (us ++ map unitOf ms)
 sentence-from start ms a k = accepted-sentence ms a k
-sentence-from (more {us} {q} {q′} {u} at g) ms a k = rw append-assoc (sentence-from at (placed (placeIn q (u .code)) u ∷ ms) (q′, g, refl, a) (rw append-assoc at k))
+sentence-from (more {us} {q} {q′} {u} at g) ms a k = rw append-assoc (sentence-from at (placed (placeIn q u) u ∷ ms) (q′, g, refl, a) (rw append-assoc at k))
 
 -- ── every state that is reached can be ended ──
 
@@ -286,6 +282,10 @@ one-nonzero a = let e : _≡_ {A = ℕ} 1 0 = a .0 in omega arith
 abbrev SomeRow : SliceRule → Type 0
 SomeRow rule = rule .tested ≡ true → 0 < rule .rows
 
+-- a unit with this code and no body
+abbrev pub empty : ℕ → StreamUnit
+empty code = record { code = code; body = [] }
+
 -- a unit that is cut as one is alone
 pub alone-cut : (u : StreamUnit) → cut (bytes u) .chunks ≡ chunk u ∷ [] → Alone u
 unfolding begins
@@ -295,19 +295,19 @@ abbrev Ends : State → Type 0
 Ends q = (ms : List Placed) × Accepts q ms × All Alone (map unitOf ms)
 
 end-slices : (rule : SliceRule) (n : ℕ) → Ends (Slices rule n)
-unfolding cut begins
-end-slices rule n = (placed place.Picture endUnit ∷ [], (Ended, end refl refl, refl, refl), (alone-cut endUnit refl, tt))
+unfolding cut begins kindOf
+end-slices rule n = (placed place.Picture (empty 0xB1) ∷ [], (Ended, end refl refl, refl, refl), (alone-cut (empty 0xB1) refl, tt))
 
 end-picture : (rule : SliceRule) → SomeRow rule → Ends (InPicture rule)
-unfolding cut begins
+unfolding cut begins kindOf
 end-picture rule h = let r = end-slices rule 1 in (
   placed place.Picture (oneByte 0) ∷ r .0,
-  (Slices rule 1, first-slice {u = oneByte 0} (omega arith, one-nonzero) (λ t. (omega arith, h t)), refl, r .1),
+  (Slices rule 1, first-slice {u = oneByte 0} (refl, one-nonzero) (λ t. (omega arith, h t)), refl, r .1),
   (alone-cut (oneByte 0) refl, r .2),
 )
 
 end-head : (rule : SliceRule) (d : Bool) → SomeRow rule → Ends (Head rule d)
-unfolding cut begins
+unfolding cut begins kindOf
 end-head rule d h = let r = end-picture rule h in
     (placed place.Picture (oneByte 0xB3) ∷ r .0, (InPicture rule, first-picture refl one-nonzero, refl, r .1), (alone-cut (oneByte 0xB3) refl, r .2))
 
@@ -322,6 +322,7 @@ unfolding cut begins plainBody
 plain-alone = alone-cut plainUnit refl
 
 ends : (us : List StreamUnit) (q : State) → Says us q → Ends q
+unfolding kindOf
 ends us Start s =
     let r = end-head (sliceRule plainHeader) false (λ t. some-row plainBody plainHeader plain-header) in
     (placed place.Picture plainUnit ∷ r .0, (Head (sliceRule plainHeader) false, sequence refl plain-header, refl, r .1), (plain-alone, r .2))

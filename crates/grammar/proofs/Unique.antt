@@ -4,11 +4,19 @@ use mathlib.Core.Path.{_≡_, refl, sym, _∙_, ap, subst}
 use mathlib.Core.Logic.{_≢_, _⊎_, inl, inr}
 use mathlib.Core.List.{List, [], _∷_, _++_, append-assoc, append-nil}
 use native.Mathlib.Omega.{arith}
+use Rattle.answers.specs.Answers.{Outcome, done, refused}
+use Rattle.answers.proofs.Outcomes.{not-done}
 use Rattle.bits.specs.Lists.{All}
 use Rattle.bits.proofs.Lists.{all-map}
+use Rattle.startcode.specs.Kinds.{kindOf}
+use Rattle.startcode.specs.declared.Kind.{Kind}
+use Rattle.startcode.specs.declared.Kind.the-variants as kind
 use Rattle.grammar.specs.Lists.{concatMap}
 use Rattle.grammar.specs.declared.SliceRule.{SliceRule}
-use Rattle.grammar.specs.Grammar.{StreamUnit, bytes, Alone, Picture, Group, Reading, pictureUnits, groupUnits, units, IsPicture, IsGroup, IsEnding, Reads, PictureExtra, HeadExtra, FirstIsI, Nonzero}
+use Rattle.grammar.specs.Grammar.{StreamUnit, bytes, Alone, Picture, Group, Reading, pictureUnits, groupUnits, units, IsPicture, IsGroup, IsEnding, Reads, PictureExtra, HeadExtra, IsSlice, FirstIsI}
+use Rattle.grammar.proofs.KindLaws.{apart}
+use Rattle.grammar.specs.Reader.{sameKind}
+use mathlib.Core.Bool.{false}
 
 -- ── units ──
 
@@ -58,25 +66,25 @@ same-units (u ∷ us) (v ∷ vs) au av e =
 
 -- ── the division ──
 
--- the first unit's code, or 256
-top : List StreamUnit → ℕ
-top [] = 256
-top (u ∷ us) = u .code
+-- the first unit's kind; an end has none
+top : List StreamUnit → Outcome Kind
+top [] = refused 0 []
+top (u ∷ us) = kindOf (u .code)
 
 -- parts of kind Ok, each followed by what Next allows, are told apart from what follows
-Told : {A : Type 0} → (A → List StreamUnit) → (A → Type 0) → (ℕ → Type 0) → Type 0
+Told : {A : Type 0} → (A → List StreamUnit) → (A → Type 0) → (Outcome Kind → Type 0) → Type 0
 Told {A} f Ok Next = (a b : A) (x y : List StreamUnit) → Ok a → Ok b → Next (top x) → Next (top y) → f a ++ x ≡ f b ++ y → (a ≡ b) × (x ≡ y)
 
-run : (P : ℕ → Type 0) → Told (λ us. us) (All (λ u. P (u .code))) (λ n. ¬ P n)
+run : (P : Outcome Kind → Type 0) → Told (λ us. us) (All (λ u. P (kindOf (u .code)))) (λ o. ¬ P o)
 unfolding Told top
 run P [] [] x y ha hb nx ny e = (refl, e)
 run P [] (v ∷ b) x y ha hb nx ny e = absurd (nx (rw e (hb .0)))
 run P (u ∷ a) [] x y ha hb nx ny e = absurd (ny (rw (sym e) (ha .0)))
 run P (u ∷ a) (v ∷ b) x y ha hb nx ny e = let r = run P a b x y (ha .1) (hb .1) nx ny (cc) in let p = r .0 in (cc, r .1)
 
-module _ {A : Type 0} (f : A → List StreamUnit) (Ok : A → Type 0) (Start Next Follow : ℕ → Type 0)
+module _ {A : Type 0} (f : A → List StreamUnit) (Ok : A → Type 0) (Start Next Follow : Outcome Kind → Type 0)
     (told : Told f Ok Next) (starts : (a : A) (x : List StreamUnit) → Ok a → Start (top (f a ++ x)))
-    (start-next : (n : ℕ) → Start n → Next n) (follow-next : (n : ℕ) → Follow n → Next n) (apart : (n : ℕ) → Follow n → Start n → ⊥) where
+    (start-next : (o : Outcome Kind) → Start o → Next o) (follow-next : (o : Outcome Kind) → Follow o → Next o) (clash : (o : Outcome Kind) → Follow o → Start o → ⊥) where
   next : (l : List A) (x : List StreamUnit) → All Ok l → Follow (top x) → Next (top (concatMap f l ++ x))
   next [] x h n = follow-next (top x) n
   next (a ∷ l) x h n = rw append-assoc (start-next _ (starts a (concatMap f l ++ x) (h .0)))
@@ -84,72 +92,72 @@ module _ {A : Type 0} (f : A → List StreamUnit) (Ok : A → Type 0) (Start Nex
   many : Told (concatMap f) (All Ok) Follow
   unfolding Told
   many [] [] x y ha hb nx ny e = (refl, e)
-  many [] (b ∷ bs) x y ha hb nx ny e = absurd (apart _ nx (rw (e, append-assoc) (starts b (concatMap f bs ++ y) (hb .0))))
-  many (a ∷ as′) [] x y ha hb nx ny e = absurd (apart _ ny (rw (sym e, append-assoc) (starts a (concatMap f as′ ++ x) (ha .0))))
+  many [] (b ∷ bs) x y ha hb nx ny e = absurd (clash _ nx (rw (e, append-assoc) (starts b (concatMap f bs ++ y) (hb .0))))
+  many (a ∷ as′) [] x y ha hb nx ny e = absurd (clash _ ny (rw (sym e, append-assoc) (starts a (concatMap f as′ ++ x) (ha .0))))
   many (a ∷ as′) (b ∷ bs) x y ha hb nx ny e =
       let d = told a b (concatMap f as′ ++ x) (concatMap f bs ++ y) (ha .0) (hb .0) (next as′ x (ha .1) nx) (next bs y (hb .1) ny) (simp append-assoc at e) in
       let r = many as′ bs x y (ha .1) (hb .1) nx ny (d .1) in
       let p = d .0 in let q = r .0 in
       (cc, r .1)
 
--- kinds of codes
-abbrev ExtraCode : ℕ → Type 0
-ExtraCode n = (n ≡ 0xB2) ⊎ (n ≡ 0xB5)
+-- kinds of unit
+abbrev Extra : Outcome Kind → Type 0
+Extra o = (o ≡ done kind.UserData) ⊎ (o ≡ done kind.Extension)
 
-abbrev SliceCode : ℕ → Type 0
-SliceCode n = n < 0xB0
+abbrev Slice : Outcome Kind → Type 0
+Slice o = o ≡ done kind.Slice
 
-abbrev PictureCode : ℕ → Type 0
-PictureCode n = (n ≡ 0xB3) ⊎ (n ≡ 0xB6)
+abbrev PictureHead : Outcome Kind → Type 0
+PictureHead o = (o ≡ done kind.IPicture) ⊎ (o ≡ done kind.PBPicture)
 
-abbrev AfterGroup : ℕ → Type 0
-AfterGroup n = (0xB0 ≤ n) × (n ≢ 0xB3) × (n ≢ 0xB6)
+abbrev AfterGroup : Outcome Kind → Type 0
+AfterGroup o = (¬ Slice o) × (¬ PictureHead o)
 
-abbrev EndingCode : ℕ → Type 0
-EndingCode n = (0xB1 ≤ n) × (n ≢ 0xB3) × (n ≢ 0xB6)
+abbrev AfterGroups : Outcome Kind → Type 0
+AfterGroups o = AfterGroup o × (o ≢ done kind.SequenceHeader)
 
-slice-no-extra : (n : ℕ) → SliceCode n → ¬ ExtraCode n
-slice-no-extra n s (inl e) = omega arith
-slice-no-extra n s (inr e) = omega arith
+slice-no-extra : (o : Outcome Kind) → Slice o → ¬ Extra o
+slice-no-extra o s (inl e) = apart kind.Slice kind.UserData refl s e
+slice-no-extra o s (inr e) = apart kind.Slice kind.Extension refl s e
 
-picture-no-extra : (n : ℕ) → PictureCode n → ¬ ExtraCode n
-picture-no-extra n (inl p) (inl e) = omega arith
-picture-no-extra n (inl p) (inr e) = omega arith
-picture-no-extra n (inr p) (inl e) = omega arith
-picture-no-extra n (inr p) (inr e) = omega arith
+picture-no-extra : (o : Outcome Kind) → PictureHead o → ¬ Extra o
+picture-no-extra o (inl p) (inl e) = apart kind.IPicture kind.UserData refl p e
+picture-no-extra o (inl p) (inr e) = apart kind.IPicture kind.Extension refl p e
+picture-no-extra o (inr p) (inl e) = apart kind.PBPicture kind.UserData refl p e
+picture-no-extra o (inr p) (inr e) = apart kind.PBPicture kind.Extension refl p e
 
-picture-no-slice : (n : ℕ) → PictureCode n → ¬ SliceCode n
-picture-no-slice n (inl p) s = omega arith
-picture-no-slice n (inr p) s = omega arith
+picture-no-slice : (o : Outcome Kind) → PictureHead o → ¬ Slice o
+picture-no-slice o (inl p) s = apart kind.IPicture kind.Slice refl p s
+picture-no-slice o (inr p) s = apart kind.PBPicture kind.Slice refl p s
 
-after-no-picture : (n : ℕ) → AfterGroup n → ¬ PictureCode n
-after-no-picture n a (inl p) = omega arith
-after-no-picture n a (inr p) = omega arith
+-- where neither slices nor pictures go on, by a kind that is neither
+after-group : (o : Outcome Kind) (k : Kind) → o ≡ done k → sameKind k kind.Slice ≡ false → sameKind k kind.IPicture ≡ false → sameKind k kind.PBPicture ≡ false → AfterGroup o
+after-group o k e s i p = ((λ f. apart k kind.Slice s e f), λ f. elim f [ inl g ↦ apart k kind.IPicture i e g | inr g ↦ apart k kind.PBPicture p e g ])
 
 APicture : Picture → Type 0
 APicture p = (rule : SliceRule) × IsPicture rule p
 
-picture-extra : (u : StreamUnit) → PictureExtra u → ExtraCode (u .code)
+picture-extra : (u : StreamUnit) → PictureExtra u → Extra (kindOf (u .code))
 picture-extra u (inl e) = inl e
 picture-extra u (inr e) = inr (e .0)
 
-head-extra : (u : StreamUnit) → HeadExtra u → ExtraCode (u .code)
+head-extra : (u : StreamUnit) → HeadExtra u → Extra (kindOf (u .code))
 head-extra u (inl e) = inl e
 head-extra u (inr e) = inr (e .0)
 
-slices-top : (ss : List StreamUnit) (x : List StreamUnit) → ss ≢ [] → All (λ s. (s .code < 0xB0) × Nonzero (s .body)) ss → SliceCode (top (ss ++ x))
+slices-top : (ss : List StreamUnit) (x : List StreamUnit) → ss ≢ [] → All IsSlice ss → Slice (top (ss ++ x))
 unfolding top
 slices-top [] x ne h = absurd (ne refl)
 slices-top (s ∷ ss) x ne h = h .0 .0
 
-picture-told : Told pictureUnits APicture (λ n. ¬ SliceCode n)
+picture-told : Told pictureUnits APicture (λ o. ¬ Slice o)
 unfolding Told APicture
 picture-told p q x y hp hq nx ny e =
-    let r = run ExtraCode (p .extras) (q .extras) (p .slices ++ x) (q .slices ++ y)
+    let r = run Extra (p .extras) (q .extras) (p .slices ++ x) (q .slices ++ y)
     (all-map picture-extra (p .extras) (hp .1 .extras)) (all-map picture-extra (q .extras) (hq .1 .extras))
     (slice-no-extra _ (slices-top (p .slices) x (hp .1 .some-slice) (hp .1 .slices)))
     (slice-no-extra _ (slices-top (q .slices) y (hq .1 .some-slice) (hq .1 .slices))) tails in
-    let s = run SliceCode (p .slices) (q .slices) x y
+    let s = run Slice (p .slices) (q .slices) x y
     (all-map (λ u h. h .0) (p .slices) (hp .1 .slices)) (all-map (λ u h. h .0) (q .slices) (hq .1 .slices)) nx ny (r .1) in
     ((λ i. record { head = heads i; extras = r .0 i; slices = s .0 i }), s .1)
   where
@@ -161,10 +169,10 @@ picture-told p q x y hp hq nx ny e =
 
 pictures-told : Told (concatMap pictureUnits) (All APicture) AfterGroup
 unfolding APicture top
-pictures-told = many pictureUnits APicture PictureCode (λ n. ¬ SliceCode n) AfterGroup picture-told
-    (λ p x h. h .1 .code) picture-no-slice (λ n a s. omega arith) after-no-picture
+pictures-told = many pictureUnits APicture PictureHead (λ o. ¬ Slice o) AfterGroup picture-told
+    (λ p x h. h .1 .kind) picture-no-slice (λ o a. a .0) (λ o a. a .1)
 
-first-top : (ps : List Picture) (x : List StreamUnit) → FirstIsI ps → PictureCode (top (concatMap pictureUnits ps ++ x))
+first-top : (ps : List Picture) (x : List StreamUnit) → FirstIsI ps → PictureHead (top (concatMap pictureUnits ps ++ x))
 unfolding top
 first-top [] x h = absurd h
 first-top (p ∷ ps) x h = inl h
@@ -172,7 +180,7 @@ first-top (p ∷ ps) x h = inl h
 group-told : Told groupUnits (IsGroup) AfterGroup
 unfolding Told APicture
 group-told g k x y hg hk nx ny e =
-    let r = run ExtraCode (g .extras) (k .extras) (concatMap pictureUnits (g .pictures) ++ x) (concatMap pictureUnits (k .pictures) ++ y)
+    let r = run Extra (g .extras) (k .extras) (concatMap pictureUnits (g .pictures) ++ x) (concatMap pictureUnits (k .pictures) ++ y)
     (all-map head-extra (g .extras) (hg .extras)) (all-map head-extra (k .extras) (hk .extras))
     (picture-no-extra _ (first-top (g .pictures) x (hg .first))) (picture-no-extra _ (first-top (k .pictures) y (hk .first))) tails in
     let s = pictures-told (g .pictures) (k .pictures) x y
@@ -185,16 +193,18 @@ group-told g k x y hg hk nx ny e =
     tails : g .extras ++ (concatMap pictureUnits (g .pictures) ++ x) ≡ k .extras ++ (concatMap pictureUnits (k .pictures) ++ y)
     tails = cc (append-assoc (g .extras) (concatMap pictureUnits (g .pictures)) x, append-assoc (k .extras) (concatMap pictureUnits (k .pictures)) y)
 
-groups-told : Told (concatMap groupUnits) (All (IsGroup)) EndingCode
+groups-told : Told (concatMap groupUnits) (All (IsGroup)) AfterGroups
 unfolding top
-groups-told = many groupUnits (IsGroup) (λ n. n ≡ 0xB0) AfterGroup EndingCode group-told
-    (λ g x h. h .code) (λ n e. omega arith) (λ n e. omega arith) (λ n e s. omega arith)
+groups-told = many groupUnits (IsGroup) (λ o. o ≡ done kind.SequenceHeader) AfterGroup AfterGroups group-told
+    (λ g x h. h .kind) (λ o e. after-group o kind.SequenceHeader e refl refl refl) (λ o e. e .0) (λ o e. e .1)
 
-ending-top : (e : List StreamUnit) → IsEnding e → EndingCode (top e)
+ending-top : (e : List StreamUnit) → IsEnding e → AfterGroups (top e)
 unfolding top
-ending-top e (inl h) = rw h (omega arith)
-ending-top e (inr (inl h)) = rw h (omega arith)
-ending-top e (inr (inr h)) = rw h (omega arith)
+ending-top [] h = absurd h
+ending-top (e ∷ []) (inl h) = (after-group _ kind.SequenceEnd (h .0) refl refl refl, λ f. apart kind.SequenceEnd kind.SequenceHeader refl (h .0) f)
+ending-top (e ∷ []) (inr h) = (after-group _ kind.EditCode (h .0) refl refl refl, λ f. apart kind.EditCode kind.SequenceHeader refl (h .0) f)
+ending-top (e ∷ f ∷ []) h = (after-group _ kind.SequenceEnd (h .0 .0) refl refl refl, λ f. apart kind.SequenceEnd kind.SequenceHeader refl (h .0 .0) f)
+ending-top (e ∷ f ∷ g ∷ more) h = absurd h
 
 pub same-reading : (stream : List ℕ) (r q : Reading) → Reads stream r → Reads stream q → r ≡ q
 unfolding Told

@@ -1,4 +1,4 @@
--- Filing by index: what is left to file at an offset where a unit begins, one unit at a time.
+-- The walk by index: what is left of it at an offset where a unit begins, one unit at a time.
 use Prim.Native.Nat.{ℕ, zero, suc, _≤_, _<_, _+_, _-_, min}
 use mathlib.Core.Path.{_≡_, refl, sym, _∙_, ap, subst}
 use mathlib.Core.Logic.{_≢_}
@@ -8,20 +8,20 @@ use lib.ListN.{length, getD, take, drop, length-drop, length-take}
 use lib.Seq.{drop-cons, drop-drop, drop-length, take-append-seam, take-all}
 use native.Mathlib.Numerals.{add-one}
 use native.Mathlib.Omega.{arith}
-use Rattle.answers.specs.Answers.{Outcome, done, refused, CUT, OVERLAP, UNENDED}
+use Rattle.answers.specs.Results.{good}
 use Rattle.bits.proofs.Lists.{by-test}
 use Rattle.startcode.specs.Prefix.{begins, before, nextPrefix}
 use Rattle.startcode.proofs.Laws.{before-hit, before-miss, before-le, before-found, search-start}
 use Rattle.grammar.specs.Lists.{concatMap}
 use Rattle.grammar.specs.Grammar.{StreamUnit, bytes}
-use Rattle.grammar.specs.Rows.{Row}
-use Rattle.grammar.specs.Reader.{Cut, cutHere, noCut, cut, final, step, addRow, continue, rowAt, isNil, fileFrom, filing}
+use Rattle.grammar.specs.Reader.{Cut, cutHere, noCut, cut, final, isNil, Walk, stopAt, walkFrom}
 use Rattle.grammar.specs.declared.State.{State}
+use Rattle.grammar.specs.declared.Reason.the-variants.{Unended}
 use Rattle.grammar.proofs.Cutting.{cut-law, rebuilt, prefixed, begins-true}
 
--- what is left to file in state q, at offset `at`
-unfoldable pub left : List ℕ → State → ℕ → Outcome (List Row)
-left s q at = fileFrom (cut (drop at s) .chunks) q at
+-- what is left of the walk in state q, at offset `at`
+unfoldable pub left : List ℕ → State → ℕ → Walk
+left s q at = walkFrom (cut (drop at s) .chunks) q at
 
 -- ── cutting at the end of the front ──
 
@@ -68,8 +68,8 @@ prefix-fits s at b = omega (arith, simp length-drop at (ap length (after-prefix 
 pub chunks-at : (s : List ℕ) (at : ℕ) → begins (drop at s) ≡ true → cut (drop at s) .chunks ≡ cut (drop (at + 3) s) .front ∷ cut (drop (at + 3) s) .chunks
 chunks-at s at b = rw (after-prefix s at b, cut-law)
 
-pub left-end : (s : List ℕ) (q : State) → left s q (length s) ≡ cond (final q) (done []) (refused UNENDED (length s ∷ []))
-unfolding left fileFrom cut
+pub left-end : (s : List ℕ) (q : State) → left s q (length s) ≡ cond (final q) (good []) (stopAt Unended (length s))
+unfolding left walkFrom cut
 left-end s q = rw drop-length
 
 -- the chunk of a prefix with no code byte after it, of one that another prefix follows at once, and of a unit

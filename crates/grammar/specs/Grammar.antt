@@ -6,9 +6,12 @@ use mathlib.Core.Logic.{_≢_, _⊎_}
 use mathlib.Core.List.{List, [], _∷_, _++_}
 use mathlib.Core.Bool.{true}
 use mathlib.Core.Option.{some}
+use Rattle.answers.specs.Answers.{done}
 use Rattle.bits.specs.Lists.{All}
-use Rattle.bits.specs.declared.Read.the-variants.{Value}
-use Rattle.layout.specs.Reader.{numberOf}
+use Rattle.startcode.specs.Kinds.{kindOf}
+use Rattle.startcode.specs.declared.Kind.{Kind}
+use Rattle.startcode.specs.declared.Kind.the-variants as kind
+use Rattle.layout.specs.Extensions.{HasNumber}
 use Rattle.layout.specs.Obeys.{Obeys}
 use Rattle.layout.specs.Records.{headerRecord}
 use Rattle.layout.specs.declared.Layout.the-variants.{Header, Display, Coloured, Copyright}
@@ -26,6 +29,10 @@ pub record StreamUnit : Type 0 where
 
 abbrev pub bytes : StreamUnit → List ℕ
 bytes u = 0 ∷ 0 ∷ 1 ∷ u .code ∷ u .body
+
+-- its kind, by its code byte
+abbrev pub IsKind : Kind → StreamUnit → Type 0
+IsKind k u = kindOf (u .code) ≡ done k
 
 -- it holds 00 00 01 nowhere but at its start
 abbrev pub Alone : StreamUnit → Type 0
@@ -72,7 +79,7 @@ IsDisplay body = (vs : List ℕ) × (Obeys Display body vs ⊎ Obeys Coloured bo
 -- An extension body has at least one byte; number 4 anywhere is copyright.
 pub record Extension (body : List ℕ) : Type 0 where
   pub some-byte : body ≢ []
-  pub copyright : numberOf body ≡ Value 4 → IsCopyright body
+  pub copyright : HasNumber body 4 → IsCopyright body
 
 -- some byte is not 0
 abbrev pub Nonzero : List ℕ → Type 0
@@ -82,7 +89,7 @@ Nonzero body = ¬ All (λ x. x ≡ 0) body
 
 -- user data or an extension, after a picture header
 abbrev pub PictureExtra : StreamUnit → Type 0
-PictureExtra u = (u .code ≡ 0xB2) ⊎ ((u .code ≡ 0xB5) × Extension (u .body))
+PictureExtra u = IsKind kind.UserData u ⊎ (IsKind kind.Extension u × Extension (u .body))
 
 -- each slice's code byte is greater than the one before
 abbrev pub Rising : List StreamUnit → Type 0
@@ -91,11 +98,15 @@ Rising (s ∷ []) = Unit {0}
 Rising (s ∷ t ∷ ss) = (s .code < t .code) × Rising (t ∷ ss)
 
 abbrev pub IsSlice : StreamUnit → Type 0
-IsSlice s = (s .code < 0xB0) × Nonzero (s .body)
+IsSlice s = IsKind kind.Slice s × Nonzero (s .body)
+
+-- B3 or B6
+abbrev pub IsPictureHead : StreamUnit → Type 0
+IsPictureHead u = IsKind kind.IPicture u ⊎ IsKind kind.PBPicture u
 
 -- B3 or B6, then any number of B2 and B5, then one or more slices
 pub record IsPicture (rule : SliceRule) (p : Picture) : Type 0 where
-  pub code : (p .head .code ≡ 0xB3) ⊎ (p .head .code ≡ 0xB6)
+  pub kind : IsPictureHead (p .head)
   pub body : Nonzero (p .head .body)
   pub extras : All PictureExtra (p .extras)
   pub some-slice : p .slices ≢ []
@@ -106,15 +117,15 @@ pub record IsPicture (rule : SliceRule) (p : Picture) : Type 0 where
 
 -- the same in a group's head, where number 2 is a display extension
 abbrev pub HeadExtra : StreamUnit → Type 0
-HeadExtra u = (u .code ≡ 0xB2) ⊎ ((u .code ≡ 0xB5) × Extension (u .body) × (numberOf (u .body) ≡ Value 2 → IsDisplay (u .body)))
+HeadExtra u = IsKind kind.UserData u ⊎ (IsKind kind.Extension u × Extension (u .body) × (HasNumber (u .body) 2 → IsDisplay (u .body)))
 
 abbrev pub DisplayUnit : StreamUnit → Type 0
-DisplayUnit u = (u .code ≡ 0xB5) × (numberOf (u .body) ≡ Value 2)
+DisplayUnit u = IsKind kind.Extension u × HasNumber (u .body) 2
 
 -- The first picture is B3.
 abbrev pub FirstIsI : List Picture → Type 0
 FirstIsI [] = ⊥
-FirstIsI (p ∷ ps) = p .head .code ≡ 0xB3
+FirstIsI (p ∷ ps) = IsKind kind.IPicture (p .head)
 
 -- a group's slice rule: its macroblock rows, and whether slices are tested
 abbrev pub sliceRule : SequenceHeader → SliceRule
@@ -123,7 +134,7 @@ sliceRule header = record { tested = slicesTested header; rows = macroblockRows 
 -- B0, then any number of B2 and B5, at most one of them a display extension, then one or more pictures
 pub record IsGroup (g : Group) : Type 0 where
   pub header : SequenceHeader
-  pub code : g .head .code ≡ 0xB0
+  pub kind : IsKind kind.SequenceHeader (g .head)
   pub body : IsHeader (g .head .body) header
   pub extras : All HeadExtra (g .extras)
   pub one-display : AtMostOne DisplayUnit (g .extras)
@@ -132,15 +143,15 @@ pub record IsGroup (g : Group) : Type 0 where
 
 -- ── streams ──
 
-abbrev pub endUnit : StreamUnit
-endUnit = record { code = 0xB1; body = [] }
-
-abbrev pub editUnit : StreamUnit
-editUnit = record { code = 0xB7; body = [] }
+abbrev pub Empty : Kind → StreamUnit → Type 0
+Empty k u = IsKind k u × (u .body ≡ [])
 
 -- B1, or B7, or B1 then B7. Their bodies are empty.
 abbrev pub IsEnding : List StreamUnit → Type 0
-IsEnding e = (e ≡ endUnit ∷ []) ⊎ (e ≡ editUnit ∷ []) ⊎ (e ≡ endUnit ∷ editUnit ∷ [])
+IsEnding [] = ⊥
+IsEnding (e ∷ []) = Empty kind.SequenceEnd e ⊎ Empty kind.EditCode e
+IsEnding (e ∷ f ∷ []) = Empty kind.SequenceEnd e × Empty kind.EditCode f
+IsEnding (e ∷ f ∷ g ∷ more) = ⊥
 
 -- One or more groups, then an ending. The units' bytes in order are the stream, with none left over.
 pub record Reads (stream : List ℕ) (r : Reading) : Type 0 where

@@ -1,6 +1,7 @@
--- Document 01, "Grammar of a stream" and "Rows": readings with no reader, and the reader with its refusals.
+-- Document 01, "Grammar of a stream" and "Rows": readings with no reader, the refusals, and the reader apart.
 pub mod Lists
 pub mod Grammar
 pub mod Rows
-pub mod Reader
+pub mod Reasons
 pub mod Refusals
+pub mod Reader

@@ -1,23 +1,33 @@
--- What filing answers, as a computation: the stream is cut at each 00 00 01, and a state goes over the units.
+-- Filing as a computation: the stream is cut at each 00 00 01, and a state goes over the units.
 -- Document 01's order: TOO LONG, NO CODE, then unit by unit 2, 3, 4, 5, 6, 10, fields in bit order, 9; then UNENDED, then FULL.
-use Prim.Native.Nat.{ℕ, suc, _+_, _*_}
+use Prim.Native.Nat.{ℕ, _+_, _*_}
 use mathlib.Core.List.{List, [], _∷_}
-use mathlib.Core.Bool.{Bool, true, false, cond, _&&_, _||_, not}
+use mathlib.Core.Bool.{Bool, true, false, cond, _&&_, not}
 use lib.Dec.{eqb, leb, ltb}
 use lib.ListN.{length, drop}
+use Rattle.answers.specs.Answers.{Outcome, done, refused}
 use Rattle.answers.specs.Limits.{longestStream}
-use Rattle.answers.specs.Answers.{Outcome, done, refused, mapDone, NO-CODE, CUT, OVERLAP, UNKNOWN, OUT-OF-PLACE, SHORT, VALUE, STUFFING, TWICE, UNENDED, FULL, TOO-LONG}
-use Rattle.layout.specs.Answers.{faultNumber}
-use Rattle.layout.specs.Reader.{headerResult, extensionResult, isDisplay, displayShort, displayOf, Result, allZero}
-use Rattle.answers.specs.Results.{good, bad}
+use Rattle.answers.specs.Results.{Result, good, bad, mapGood}
+use Rattle.startcode.specs.Prefix.{begins}
+use Rattle.startcode.specs.Kinds.{kindOf}
+use Rattle.startcode.specs.declared.Kind.{Kind}
+use Rattle.startcode.specs.declared.Kind.the-variants as kind
+use Rattle.layout.specs.Extensions.{numbered}
+use Rattle.layout.specs.Reader.{headerResult, extensionResult, displayShort, displayOf, allZero}
+use Rattle.layout.specs.declared.Fault.{Fault}
+use Rattle.layout.specs.declared.Fault.the-variants as fault
 use Rattle.layout.specs.declared.Place.{Place}
 use Rattle.layout.specs.declared.Place.the-variants as place
-use Rattle.startcode.specs.Prefix.{begins}
 use Rattle.grammar.specs.Grammar.{StreamUnit, bytes, sliceRule}
-use Rattle.grammar.specs.Rows.{Row, placed, rowLength}
+use Rattle.grammar.specs.Rows.{Row, Placed, placed, rowsFrom}
+use Rattle.grammar.specs.Reasons.{reasonNumber}
 use Rattle.grammar.specs.declared.SliceRule.{SliceRule}
 use Rattle.grammar.specs.declared.State.{State}
 use Rattle.grammar.specs.declared.State.the-variants as state
+use Rattle.grammar.specs.declared.Reason.{Reason}
+use Rattle.grammar.specs.declared.Reason.the-variants as reason
+use Rattle.grammar.specs.declared.Step.{Step}
+use Rattle.grammar.specs.declared.Step.the-variants.{Go as go, Stop as stop}
 
 -- ── cutting ──
 
@@ -38,25 +48,15 @@ cut (byte ∷ bytes) = cond (begins (byte ∷ bytes)) (cutHere (cut bytes)) (noC
 
 -- ── one unit ──
 
--- the next state, or the number of a refusal
-pub data Step : Type 0 where
-  go : State → Step
-  stop : ℕ → Step
-
--- the first refusal whose test holds, or the step
-abbrev pub guard : List (Bool × ℕ) → Step → Step
+-- the first reason whose test holds, or the step
+abbrev pub guard : List (Bool × Reason) → Step → Step
 guard [] step = step
 guard (c ∷ cs) step = cond (c .0) (stop (c .1)) (guard cs step)
 
--- the first step whose test holds, or OUT OF PLACE
-abbrev pub choose : List (Bool × Step) → Step
-choose [] = stop OUT-OF-PLACE
-choose (c ∷ cs) = cond (c .0) (c .1) (choose cs)
-
 -- what reading a body says
-abbrev pub by : {A : Type 0} → Result A → (A → State) → Step
+abbrev pub by : {A : Type 0} → Result Fault A → (A → State) → Step
 by (good a) next = go (next a)
-by (bad fault) next = stop (faultNumber fault)
+by (bad fault) next = stop (reason.Body fault)
 
 abbrev pub isNil : {A : Type 0} → List A → Bool
 isNil [] = true
@@ -68,59 +68,78 @@ headerStep body = by (headerResult body) (λ header. state.Head (sliceRule heade
 -- SHORT, then TWICE, then the fields
 abbrev pub displayStep : SliceRule → Bool → List ℕ → Step
 displayStep rule display body =
-    guard ((displayShort body, SHORT) ∷ (display, TWICE) ∷ [])
+    guard ((displayShort body, reason.Body fault.Short) ∷ (display, reason.Twice) ∷ [])
     (by (displayOf body) (λ x. state.Head rule true))
 
 abbrev pub headExtension : SliceRule → Bool → List ℕ → Step
 headExtension rule display body =
-    cond (isDisplay body) (displayStep rule display body) (by (extensionResult place.Head body) (λ x. state.Head rule display))
+    cond (numbered 2 body) (displayStep rule display body) (by (extensionResult place.Head body) (λ x. state.Head rule display))
 
 abbrev pub pictureExtension : SliceRule → List ℕ → Step
 pictureExtension rule body = by (extensionResult place.Picture body) (λ x. state.Picture rule)
 
 abbrev pub pictureStep : SliceRule → List ℕ → Step
-pictureStep rule body = guard ((allZero body, SHORT) ∷ []) (go (state.Picture rule))
+pictureStep rule body = guard ((allZero body, reason.Body fault.Short) ∷ []) (go (state.Picture rule))
 
--- the order before the rows
+-- the order before the row
 abbrev pub sliceStep : SliceRule → ℕ → StreamUnit → Step
 sliceStep rule least u =
-    guard ((allZero (u .body), SHORT) ∷ (rule .tested && ltb (u .code) least, VALUE) ∷ (rule .tested && leb (rule .rows) (u .code), VALUE) ∷ [])
+    guard ((allZero (u .body), reason.Body fault.Short) ∷ (rule .tested && ltb (u .code) least, reason.SliceOrder) ∷ (rule .tested && leb (rule .rows) (u .code), reason.SliceRow) ∷ [])
     (go (state.Slices rule (u .code + 1)))
 
 abbrev pub endingStep : List ℕ → State → Step
-endingStep body next = guard ((not (isNil body), STUFFING) ∷ []) (go next)
+endingStep body next = guard ((not (isNil body), reason.Body fault.Stuffing) ∷ []) (go next)
 
--- which units may stand here, and what follows each
-abbrev pub table : State → StreamUnit → List (Bool × Step)
-table state.Start u = (eqb (u .code) 0xB0, headerStep (u .body)) ∷ []
+-- which kinds of unit may stand here, and what follows each
+abbrev pub table : State → StreamUnit → List (Kind × Step)
+table state.Start u = (kind.SequenceHeader, headerStep (u .body)) ∷ []
 table (state.Head rule display) u =
-    (eqb (u .code) 0xB2, go (state.Head rule display))
-    ∷ (eqb (u .code) 0xB5, headExtension rule display (u .body))
-    ∷ (eqb (u .code) 0xB3, pictureStep rule (u .body))
+    (kind.UserData, go (state.Head rule display))
+    ∷ (kind.Extension, headExtension rule display (u .body))
+    ∷ (kind.IPicture, pictureStep rule (u .body))
     ∷ []
 table (state.Picture rule) u =
-    (ltb (u .code) 0xB0, sliceStep rule 0 u)
-    ∷ (eqb (u .code) 0xB2, go (state.Picture rule))
-    ∷ (eqb (u .code) 0xB5, pictureExtension rule (u .body))
+    (kind.Slice, sliceStep rule 0 u)
+    ∷ (kind.UserData, go (state.Picture rule))
+    ∷ (kind.Extension, pictureExtension rule (u .body))
     ∷ []
 table (state.Slices rule least) u =
-    (ltb (u .code) 0xB0, sliceStep rule least u)
-    ∷ (eqb (u .code) 0xB3 || eqb (u .code) 0xB6, pictureStep rule (u .body))
-    ∷ (eqb (u .code) 0xB0, headerStep (u .body))
-    ∷ (eqb (u .code) 0xB1, endingStep (u .body) state.Ended)
-    ∷ (eqb (u .code) 0xB7, endingStep (u .body) state.Closed)
+    (kind.Slice, sliceStep rule least u)
+    ∷ (kind.IPicture, pictureStep rule (u .body))
+    ∷ (kind.PBPicture, pictureStep rule (u .body))
+    ∷ (kind.SequenceHeader, headerStep (u .body))
+    ∷ (kind.SequenceEnd, endingStep (u .body) state.Ended)
+    ∷ (kind.EditCode, endingStep (u .body) state.Closed)
     ∷ []
-table state.Ended u = (eqb (u .code) 0xB7, endingStep (u .body) state.Closed) ∷ []
+table state.Ended u = (kind.EditCode, endingStep (u .body) state.Closed) ∷ []
 table state.Closed u = []
 
--- B4, B8 or B9 to FF
-abbrev pub unknown : ℕ → Bool
-unknown code = eqb code 0xB4 || leb 0xB8 code
+-- kinds are told apart by a number
+abbrev pub kindIndex : Kind → ℕ
+kindIndex kind.Slice = 0
+kindIndex kind.SequenceHeader = 1
+kindIndex kind.SequenceEnd = 2
+kindIndex kind.UserData = 3
+kindIndex kind.IPicture = 4
+kindIndex kind.Extension = 5
+kindIndex kind.PBPicture = 6
+kindIndex kind.EditCode = 7
+
+abbrev pub sameKind : Kind → Kind → Bool
+sameKind j k = eqb (kindIndex j) (kindIndex k)
+
+-- the step of this kind, or OUT OF PLACE
+abbrev pub choose : Kind → List (Kind × Step) → Step
+choose k [] = stop reason.OutOfPlace
+choose k (c ∷ cs) = cond (sameKind k (c .0)) (c .1) (choose k cs)
+
+-- a code with no kind is UNKNOWN
+abbrev pub byKind : Outcome Kind → (Kind → Step) → Step
+byKind (done k) next = next k
+byKind (refused number carried) next = stop reason.Unknown
 
 unfoldable pub step : State → StreamUnit → Step
-step q u = choose ((unknown (u .code), stop UNKNOWN) ∷ table q u)
-
--- ── the answer: rows, or a refusal with its place ──
+step q u = byKind (kindOf (u .code)) (λ k. choose k (table q u))
 
 -- the sentence is complete
 abbrev pub final : State → Bool
@@ -131,46 +150,75 @@ final (state.Slices rule least) = false
 final state.Ended = true
 final state.Closed = true
 
--- a unit read in this state stands between a sequence header and the first picture
-abbrev pub placeIn : State → ℕ → Place
-placeIn state.Start code = place.Picture
-placeIn (state.Head rule display) code = cond (eqb code 0xB3) place.Picture place.Head
-placeIn (state.Picture rule) code = place.Picture
-placeIn (state.Slices rule least) code = place.Picture
-placeIn state.Ended code = place.Picture
-placeIn state.Closed code = place.Picture
+abbrev pub isKind : Kind → Outcome Kind → Bool
+isKind j (done k) = sameKind j k
+isKind j (refused number carried) = false
 
-abbrev pub rowAt : State → ℕ → StreamUnit → Row
-rowAt q at u = record { code = u .code; offset = at; length = rowLength (placed (placeIn q (u .code)) u) }
+-- a unit of this kind, read in this state, stands between a sequence header and the first picture, or elsewhere
+abbrev pub placeOf : State → Outcome Kind → Place
+placeOf state.Start k = place.Picture
+placeOf (state.Head rule display) k = cond (isKind kind.IPicture k) place.Picture place.Head
+placeOf (state.Picture rule) k = place.Picture
+placeOf (state.Slices rule least) k = place.Picture
+placeOf state.Ended k = place.Picture
+placeOf state.Closed k = place.Picture
 
--- go on in the next state, or refuse at the unit's offset
-abbrev pub continue : Step → ℕ → (State → Outcome (List Row)) → Outcome (List Row)
+abbrev pub placeIn : State → StreamUnit → Place
+placeIn q u = placeOf q (kindOf (u .code))
+
+-- ── the walk: the units, each with its place, or why it stops and where ──
+
+pub record Stopped : Type 0 where
+  pub reason : Reason
+  pub place : ℕ
+
+abbrev pub Walk : Type 0
+Walk = Result Stopped (List Placed)
+
+abbrev pub stopAt : {A : Type 0} → Reason → ℕ → Result Stopped A
+stopAt why at = bad (record { reason = why; place = at })
+
+-- go on in the next state, or stop at the unit's offset
+abbrev pub continue : Step → ℕ → (State → Walk) → Walk
 continue (go q) at rest = rest q
-continue (stop number) at rest = refused number (at ∷ [])
+continue (stop why) at rest = stopAt why at
 
-abbrev pub addRow : Row → Outcome (List Row) → Outcome (List Row)
-addRow r rest = mapDone (λ rs. r ∷ rs) rest
+abbrev pub addUnit : Placed → Walk → Walk
+addUnit m rest = mapGood (λ ms. m ∷ ms) rest
 
 -- the chunks from offset `at` on, in state q; an empty chunk is CUT at the stream's end and OVERLAP before another
-unfoldable pub fileFrom : List (List ℕ) → State → ℕ → Outcome (List Row)
-fileFrom [] q at = cond (final q) (done []) (refused UNENDED (at ∷ []))
-fileFrom ([] ∷ chunks) q at = refused (cond (isNil chunks) CUT OVERLAP) (at ∷ [])
-fileFrom ((code ∷ body) ∷ chunks) q at =
+unfoldable pub walkFrom : List (List ℕ) → State → ℕ → Walk
+walkFrom [] q at = cond (final q) (good []) (stopAt reason.Unended at)
+walkFrom ([] ∷ chunks) q at = stopAt (cond (isNil chunks) reason.Cut reason.Overlap) at
+walkFrom ((code ∷ body) ∷ chunks) q at =
     let u : StreamUnit = record { code = code; body = body } in
-    continue (step q u) at (λ q′. addRow (rowAt q at u) (fileFrom chunks q′ (at + length (bytes u))))
+    continue (step q u) at (λ q′. addUnit (placed (placeIn q u) u) (walkFrom chunks q′ (at + length (bytes u))))
 
--- filing of a stream of any length
-unfoldable pub filingOfAny : List ℕ → Outcome (List Row)
-filingOfAny stream = cond (begins stream) (fileFrom (cut stream .chunks) state.Start 0) (refused NO-CODE (0 ∷ []))
+-- a stream of any length
+unfoldable pub walkOfAny : List ℕ → Walk
+walkOfAny stream = cond (begins stream) (walkFrom (cut stream .chunks) state.Start 0) (stopAt reason.NoCode 0)
+
+unfoldable pub walk : List ℕ → Walk
+walk stream = cond (ltb longestStream (length stream)) (stopAt reason.TooLong 0) (walkOfAny stream)
+
+-- ── the answer: rows, or a refusal with its number and its place ──
+
+-- what is seen of the units, in document 01's terms
+abbrev pub said : {A : Type 0} → (List Placed → A) → Walk → Outcome A
+said view (good ms) = done (view ms)
+said view (bad s) = refused (reasonNumber (s .reason)) (s .place ∷ [])
 
 -- the rows of a stream, whatever is lent for them
 unfoldable pub filing : List ℕ → Outcome (List Row)
-filing stream = cond (ltb longestStream (length stream)) (refused TOO-LONG (0 ∷ [])) (filingOfAny stream)
+filing stream = said (rowsFrom 0) (walk stream)
 
-abbrev pub within : ℕ → Outcome (List Row) → Outcome (List Row)
-within lent (done rs) = cond (ltb lent (3 * length rs)) (refused FULL (0 ∷ [])) (done rs)
-within lent (refused number carried) = refused number carried
+-- the same with so many words lent, three a unit; FULL comes last
+abbrev pub within : ℕ → Walk → Walk
+within lent (good ms) = cond (ltb lent (3 * length ms)) (stopAt reason.Full 0) (good ms)
+within lent (bad s) = bad s
 
--- the same, with so many words lent
+unfoldable pub walkInto : List ℕ → ℕ → Walk
+walkInto stream lent = within lent (walk stream)
+
 unfoldable pub filingInto : List ℕ → ℕ → Outcome (List Row)
-filingInto stream lent = within lent (filing stream)
+filingInto stream lent = said (rowsFrom 0) (walkInto stream lent)

@@ -1,16 +1,20 @@
 -- Document 01, "Rows": the rows of a reading.
 use Prim.Native.Nat.{ℕ, _+_}
+use mathlib.Core.Path.{_≡_}
+use mathlib.Core.Logic.{_≢_, _⊎_}
 use mathlib.Core.List.{List, [], _∷_, _++_, map}
-use mathlib.Core.Bool.{Bool, true, false, cond, _&&_, _||_}
+use mathlib.Core.Bool.{Bool, true, false, cond}
 use lib.Dec.{eqb}
-use lib.ListN.{length}
+use lib.ListN.{length, replicate}
 use Rattle.answers.specs.Answers.{Outcome, done, refused}
-use Rattle.layout.specs.Answers.{Extension, display, copyright, opaque}
-use Rattle.layout.specs.Reader.{extensionOf}
+use Rattle.startcode.specs.Kinds.{kindOf}
+use Rattle.startcode.specs.declared.Kind.{Kind}
+use Rattle.startcode.specs.declared.Kind.the-variants as kind
+use Rattle.layout.specs.Extensions.{HasNumber, isOpaque}
 use Rattle.layout.specs.declared.Place.{Place}
 use Rattle.layout.specs.declared.Place.the-variants as place
 use Rattle.grammar.specs.Lists.{concatMap}
-use Rattle.grammar.specs.Grammar.{StreamUnit, bytes, Picture, Group, Reading, pictureUnits}
+use Rattle.grammar.specs.Grammar.{StreamUnit, bytes, IsKind, Picture, Group, Reading, pictureUnits}
 
 pub record Row : Type 0 where
   pub code : ℕ
@@ -46,15 +50,20 @@ abbrev pub trimmed : List ℕ → List ℕ
 trimmed [] = []
 trimmed (x ∷ xs) = kept x (trimmed xs)
 
-abbrev pub isOpaque : Outcome Extension → Bool
-isOpaque (done (display d)) = false
-isOpaque (done (copyright c)) = false
-isOpaque (done (opaque number)) = true
-isOpaque (refused number carried) = false
-
 -- user data and opaque extensions
+abbrev pub wholeBody : Outcome Kind → Place → List ℕ → Bool
+wholeBody (done kind.Slice) p body = false
+wholeBody (done kind.SequenceHeader) p body = false
+wholeBody (done kind.SequenceEnd) p body = false
+wholeBody (done kind.UserData) p body = true
+wholeBody (done kind.IPicture) p body = false
+wholeBody (done kind.Extension) p body = isOpaque p body
+wholeBody (done kind.PBPicture) p body = false
+wholeBody (done kind.EditCode) p body = false
+wholeBody (refused number carried) p body = false
+
 abbrev pub isWhole : Placed → Bool
-isWhole p = eqb (p .unit .code) 0xB2 || (eqb (p .unit .code) 0xB5 && isOpaque (extensionOf (p .place) (p .unit .body)))
+isWhole p = wholeBody (kindOf (p .unit .code)) (p .place) (p .unit .body)
 
 -- The length is the body without its trailing zero bytes, but the whole body for user data and opaque extensions.
 unfoldable pub rowLength : Placed → ℕ
@@ -74,3 +83,25 @@ rows r = rowsFrom 0 (placedUnits r)
 abbrev pub words : List Row → List ℕ
 words [] = []
 words (r ∷ rs) = r .code ∷ r .offset ∷ r .length ∷ words rs
+
+-- ── what a row's length is, with nothing computed ──
+
+-- the number is not 4, and not 2 in a group's head
+abbrev pub Opaque : Place → List ℕ → Type 0
+Opaque p body = (¬ HasNumber body 4) × (p ≡ place.Head → ¬ HasNumber body 2)
+
+-- user data and opaque extensions
+abbrev pub Whole : Placed → Type 0
+Whole p = IsKind kind.UserData (p .unit) ⊎ (IsKind kind.Extension (p .unit) × Opaque (p .place) (p .unit .body))
+
+-- the body is n bytes and zeros after them, and the last of the n is not 0
+pub record Trimmed (body : List ℕ) (n : ℕ) : Type 0 where
+  pub first : List ℕ
+  pub zeros : ℕ
+  pub is : body ≡ first ++ replicate zeros 0
+  pub last : (before : List ℕ) (x : ℕ) → first ≡ before ++ x ∷ [] → x ≢ 0
+  pub count : length first ≡ n
+
+pub record LengthIs (p : Placed) (n : ℕ) : Type 0 where
+  pub whole : Whole p → n ≡ length (p .unit .body)
+  pub trimmed : ¬ Whole p → Trimmed (p .unit .body) n

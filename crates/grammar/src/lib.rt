@@ -1,4 +1,5 @@
-// What a walk over a stream's units knows at each of them.
+// What a walk over a stream's units knows at each of them, and why it stops.
+use layout::Fault;
 
 // A group's slice rule: whether slices are tested, and the macroblock rows.
 pub struct SliceRule {
@@ -15,4 +16,27 @@ pub enum State {
     Slices(SliceRule, u32),
     Ended,
     Closed,
+}
+
+// Why a stream is refused. Body is what is wrong with a unit's body, whole; SliceOrder and SliceRow tell which of a slice's
+// two rules is broken.
+pub enum Reason {
+    NoCode,
+    Cut,
+    Overlap,
+    Unknown,
+    OutOfPlace,
+    Body(Fault),
+    SliceOrder,
+    SliceRow,
+    Twice,
+    Unended,
+    Full,
+    TooLong,
+}
+
+// What follows a unit: the next state, or why there is none.
+pub enum Step {
+    Go(State),
+    Stop(Reason),
 }

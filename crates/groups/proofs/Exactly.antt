@@ -1,170 +1,171 @@
 -- What is answered for group g is that of the reading, and a refusal is the stream's.
-use Prim.Native.Nat.{ℕ, zero, suc, _≤_, _+_}
-use mathlib.Core.Path.{_≡_, refl, sym, _∙_, ap, subst}
+use Prim.Native.Nat.{ℕ, zero, suc, _≤_}
+use mathlib.Core.Path.{_≡_, refl, sym, _∙_, ap}
 use mathlib.Core.Logic.{_↔_}
-use mathlib.Core.List.{List, [], _∷_, _++_, map}
-use lib.Dec.{ltb}
+use mathlib.Core.List.{List, [], _∷_, map}
+use mathlib.Core.Bool.{true, false}
 use lib.ListN.{length}
 use native.Mathlib.Omega.{arith}
-use Rattle.answers.specs.Answers.{Outcome, done, refused, NO-ROW}
-use Rattle.bits.specs.Lists.{All}
-use Rattle.bits.proofs.Lists.{by-test}
-use Rattle.answers.proofs.Outcomes.{not-done, not-refused}
-use Rattle.startcode.specs.Prefix.{begins}
-use Rattle.grammar.specs.Grammar.{StreamUnit, bytes, Group, Reading, Reads, units, IsGroup}
-use Rattle.grammar.specs.Rows.{Row, rows}
-use Rattle.grammar.specs.Reader.{Cut, cut, Step, go, stop, step, final, addRow, continue, rowAt, fileFrom, filingOfAny, filing}
+use Rattle.answers.specs.Answers.{Outcome, done, refused, andThen, OneToOne, NO-ROW}
 use Rattle.answers.specs.Limits.{longestStream}
-use Rattle.grammar.specs.declared.State.{State}
-use Rattle.grammar.specs.declared.State.the-variants.{Start}
+use Rattle.answers.specs.Results.{good, bad}
+use Rattle.answers.proofs.Outcomes.{not-done, not-refused, done-one, undone}
+use Rattle.answers.proofs.Results.{not-good}
+use Rattle.bits.proofs.Lists.{by-test}
+use Rattle.startcode.specs.Prefix.{begins}
+use Rattle.layout.specs.Reader.{headerOf}
+use Rattle.layout.specs.declared.SequenceHeader.{SequenceHeader}
+use Rattle.grammar.specs.Grammar.{StreamUnit, Reading, Reads, units}
+use Rattle.grammar.specs.Rows.{Placed, placedUnits}
+use Rattle.grammar.specs.Reasons as reasons
+use Rattle.grammar.specs.Refusals.{Refuses}
+use Rattle.grammar.specs.Reader.{Cut, cut, Walk, stopAt, walkOfAny, walk, said}
+use Rattle.grammar.specs.declared.Reason.the-variants.{NoCode}
 use Rattle.grammar.proofs.Cutting.{chunk, cut-units}
-use Rattle.grammar.proofs.Filing.{filed-iff}
-use Rattle.filing.specs.declared.FilingAnswer.the-variants as filed
-use Rattle.filing.specs.Units.{reasonNumber}
-use Rattle.filing.proofs.Demand.{filing-says-one}
-use Rattle.groups.specs.Groups.{GroupRecord, unitsIn, groupsIn, groupNumber, unlessRefused, groupAt, groupSays}
-use Rattle.groups.specs.Readings.{GroupIs, Numbered, GroupOfReading, GroupByReading}
+use Rattle.grammar.proofs.Filing.{unitOf, units-of-placed, walked-iff, said-done}
+use Rattle.grammar.proofs.Refusals.{stopped-iff, said-iff}
+use Rattle.filing.specs.declared.Refusal.{Refusal}
+use Rattle.filing.proofs.Demand.{refusalOf, refusal-undone, walk-good}
+use Rattle.groups.specs.Groups.{GroupRecord, groupSays, GroupOfReading, GroupByReading}
+use Rattle.groups.specs.Reader.{displayIn, groupOf, beginsGroup, groupIn, groupAt}
+use Rattle.groups.specs.Inside.{unitsIn, unitsFrom, Here}
+use Rattle.groups.specs.declared.Display.{Display}
 use Rattle.groups.specs.declared.GroupAnswer.{GroupAnswer}
 use Rattle.groups.specs.declared.GroupAnswer.the-variants as answer
-use Rattle.groups.proofs.Readings.{same-record, Paired, groups-are, number-given, given-number, no-number}
+use Rattle.groups.proofs.Readings.{number-given, given-number, no-number}
 
 -- ── a stream with a reading ──
+
+module _ (s : List ℕ) (g : ℕ) where
+  -- of a stream that is good, the group of its units
+  at-walked : (ms : List Placed) → walk s ≡ good ms → groupAt s g ≡ groupIn g (map unitOf ms)
+  unfolding groupAt
+  at-walked ms e = ap (λ (w : Walk). andThen (said (map unitOf) w) (groupIn g)) e
+
+  module _ (r : Reading) (short : length s ≤ longestStream) (h : Reads s r) where
+    at-units : groupAt s g ≡ groupIn g (units r)
+    at-units = at-walked (placedUnits r) (walked-iff s (placedUnits r) .1 (short, (r, h, refl))) ∙ ap (groupIn g) (units-of-placed r)
+
+    pub group-is : GroupOfReading r g (groupAt s g)
+    group-is = record {
+      given = λ x. (
+        (λ e. number-given (r .ending) (h .ending) g (r .groups) (h .groups) x (sym at-units ∙ e)),
+        λ k. at-units ∙ given-number (r .ending) (h .ending) g (r .groups) (h .groups) x (k .0) (k .1) (k .2),
+      );
+      no-row = let p = no-number (r .ending) (h .ending) g (r .groups) (h .groups) in ((λ e. p .0 (sym at-units ∙ e)), λ l. at-units ∙ p .1 l);
+    }
+
+-- ── refusals ──
+
+no-place : {P A : Type 0} {m p n : ℕ} {ps : List ℕ} → _≡_ {A = Outcome A} (refused m (p ∷ ps)) (refused n []) → P
+no-place {p = p} {ps = ps} e = let z : _≡_ {A = List ℕ} (p ∷ ps) [] = cc in let y : _≡_ {A = ℕ} 0 1 = cc in absurd (omega arith)
+
+group-place : {P : Type 0} (o : Outcome SequenceHeader) (d : Display) (n place : ℕ) → groupOf o d ≡ refused n (place ∷ []) → P
+group-place (done header) d n place e = not-refused e
+group-place (refused m carried) d n place e = no-place (sym e)
+
+-- of its units a group has no place
+in-place : {P : Type 0} (g : ℕ) (us : List StreamUnit) (n place : ℕ) → groupIn g us ≡ refused n (place ∷ []) → P
+unfolding groupIn
+in-place g [] n place e = no-place (sym e)
+in-place zero (u ∷ us) n place e = by-test (beginsGroup u) (λ t. group-place (headerOf (u .body)) (displayIn us) n place (rw t at e)) (λ f. in-place zero us n place (rw f at e))
+in-place (suc g) (u ∷ us) n place e = by-test (beginsGroup u) (λ t. in-place g us n place (rw t at e)) (λ f. in-place (suc g) us n place (rw f at e))
+
+module _ (g : ℕ) where
+  from-units : (o : Outcome (List StreamUnit)) (n place : ℕ) → (andThen o (groupIn g) ≡ refused n (place ∷ [])) ↔ (o ≡ refused n (place ∷ []))
+  from-units (done us) n place = ((λ e. in-place g us n place e), λ e. not-refused e)
+  from-units (refused m carried) n place = (
+    (λ e. let p : m ≡ n = cc in let q : carried ≡ place ∷ [] = cc in rw (p, q)),
+    λ e. let p : m ≡ n = cc in let q : carried ≡ place ∷ [] = cc in rw (p, q),
+  )
+
+pub group-refused : (s : List ℕ) (g n place : ℕ) → (groupAt s g ≡ refused n (place ∷ [])) ↔ reasons.Numbered (Refuses s) n place
+unfolding groupAt
+group-refused s g n place =
+    let f = from-units g (said (map unitOf) (walk s)) n place in
+    let k = said-iff (map unitOf) (walk s) (Refuses s) (stopped-iff s) n place in
+    ((λ e. k .0 (f .0 e)), λ h. f .1 (k .1 h))
+
+-- ── any stream ──
+
+module _ (s : List ℕ) (g : ℕ) where
+  by-walk : (w : Walk) → walk s ≡ w → groupAt s g ≡ andThen (said (map unitOf) w) (groupIn g)
+  unfolding groupAt
+  by-walk w e = ap (λ (w : Walk). andThen (said (map unitOf) w) (groupIn g)) e
+
+  -- a record or NO ROW is of a stream that has a reading
+  Read : Type 0
+  Read = (length s ≤ longestStream) × ((r : Reading) × Reads s r)
+
+  good-read : (ms : List Placed) → walk s ≡ good ms → Read
+  unfolding Read
+  good-read ms e = let k = walked-iff s ms .0 e in (k .0, (k .1 .0, k .1 .1))
+
+  record-read : (x : GroupRecord) → groupAt s g ≡ done x → (w : Walk) → walk s ≡ w → Read
+  record-read x e (good ms) f = good-read ms f
+  record-read x e (bad y) f = not-done (sym (by-walk (bad y) f) ∙ e)
+
+  row-read : groupAt s g ≡ refused NO-ROW [] → (w : Walk) → walk s ≡ w → Read
+  row-read e (good ms) f = good-read ms f
+  row-read e (bad y) f = no-place (sym (by-walk (bad y) f) ∙ e)
+
+  pub group-exactly : GroupByReading s g (groupAt s g)
+  unfolding Read
+  group-exactly = record {
+    given = λ x. (
+      (λ e. let k = record-read x e (walk s) refl in (k .0, (k .1 .0, k .1 .1, group-is s g (k .1 .0) (k .0) (k .1 .1) .given x .0 e))),
+      λ h. group-is s g (h .1 .0) (h .0) (h .1 .1) .given x .1 (h .1 .2),
+    );
+    no-row = (
+      (λ e. let k = row-read e (walk s) refl in (k .0, (k .1 .0, k .1 .1, group-is s g (k .1 .0) (k .0) (k .1 .1) .no-row .0 e))),
+      λ h. group-is s g (h .1 .0) (h .0) (h .1 .1) .no-row .1 (h .1 .2),
+    );
+    refusal = λ n place. group-refused s g n place;
+  }
+
+-- ── what the code walks over ──
 
 chunk-units : (us : List StreamUnit) → unitsIn (map chunk us) ≡ us
 unfolding unitsIn
 chunk-units [] = refl
 chunk-units (u ∷ us) = ap (λ (l : List StreamUnit). u ∷ l) (chunk-units us)
 
-all-at : {A : Type 0} (P : A → Type 0) (before : List A) (a : A) (after : List A) → All P (before ++ a ∷ after) → P a
-all-at P [] a after h = h .0
-all-at P (b ∷ bs) a after h = all-at P bs a after (h .1)
+-- the units from the start on are the reading's
+units-are : (s : List ℕ) (r : Reading) → Reads s r → unitsFrom s 0 ≡ units r
+unfolding unitsFrom
+units-are s r h =
+    ap (λ (l : List ℕ). unitsIn (cut l .chunks)) (sym (h .stream-is)) ∙ ap (λ (c : Cut). unitsIn (c .chunks)) (cut-units (units r) (h .alone)) ∙ chunk-units (units r)
 
-module _ (s : List ℕ) (r : Reading) (short : length s ≤ longestStream) (h : Reads s r) where
-  stream-units : unitsIn (cut s .chunks) ≡ units r
-  stream-units = ap (λ (l : List ℕ). unitsIn (cut l .chunks)) (sym (h .stream-is)) ∙ ap (λ (c : Cut). unitsIn (c .chunks)) (cut-units (units r) (h .alone)) ∙ chunk-units (units r)
+module _ (s : List ℕ) (g n : ℕ) (e : done n ≡ said length (walk s)) where
+  found : (ms : List Placed) × (walk s ≡ good ms) × (length ms ≡ n)
+  found = said-done length (walk s) n (sym e)
 
-  all-groups : (xs : List GroupRecord) × (groupsIn (units r) ≡ xs) × Paired (r .groups) xs
-  all-groups = groups-are (r .groups) (r .ending) (h .groups) (h .ending)
+  pub at-good : groupIn g (unitsFrom s 0) ≡ groupAt s g
+  at-good = let k = walked-iff s (found .0) .0 (found .1) in ap (groupIn g) (units-are s (k .1 .0) (k .1 .1)) ∙ sym (at-units s g (k .1 .0) (k .0) (k .1 .1))
 
-  at-number : (g : ℕ) → groupAt s g ≡ groupNumber g (all-groups .0)
-  unfolding groupAt
-  at-number g =
-      ap (λ (o : Outcome (List Row)). unlessRefused o (groupNumber g (groupsIn (unitsIn (cut s .chunks))))) (filed-iff s (rows r) .1 (short, (r, h, refl)))
-      ∙ ap (λ (us : List StreamUnit). groupNumber g (groupsIn us)) stream-units ∙ ap (groupNumber g) (all-groups .1)
+  pub here-start : Here s 0
+  unfolding walkOfAny
+  here-start = let k = walk-good s (found .0) (found .1) .1 in record { inside = omega arith; prefix = λ l. by-test (begins s) (λ b. b) (λ f. let z : stopAt NoCode 0 ≡ good (found .0) = rw f at k in not-good z) }
 
-  -- the record of the group at g
-  at-group : (g : ℕ) (x : GroupRecord) (group : Group) → Numbered g (r .groups) group → GroupIs group x → groupNumber g (all-groups .0) ≡ done x
-  at-group g x group n k =
-      let f = given-number (n .before) group (n .after) (all-groups .0) (subst (λ (gs : List Group). Paired gs (all-groups .0)) (n .is) (all-groups .2)) in
-      let i = all-at IsGroup (n .before) group (n .after) (subst (All IsGroup) (n .is) (h .groups)) in
-      ap (λ (m : ℕ). groupNumber m (all-groups .0)) (sym (n .count)) ∙ f .1 ∙ ap done (same-record group i (f .0) x (f .2) k)
-
-  pub group-is : (g : ℕ) → GroupOfReading s r g
-  group-is g = record {
-    given = λ x. (
-      (λ e. number-given g (r .groups) (all-groups .0) x (all-groups .2) (sym (at-number g) ∙ e)),
-      λ k. at-number g ∙ at-group g x (k .0) (k .1) (k .2),
-    );
-    no-row = let p = no-number g (r .groups) (all-groups .0) (all-groups .2) in ((λ e. p .0 (sym (at-number g) ∙ e)), λ l. at-number g ∙ p .1 l);
-  }
-
--- ── refusals ──
-
-number-place : (g : ℕ) (xs : List GroupRecord) (n place : ℕ) → groupNumber g xs ≡ refused n (place ∷ []) → ⊥
-unfolding groupNumber
-number-place g [] n place e = let z : _≡_ {A = List ℕ} [] (place ∷ []) = cc in let y : _≡_ {A = ℕ} 0 1 = cc in omega arith
-number-place zero (x ∷ xs) n place e = not-refused e
-number-place (suc g) (x ∷ xs) n place e = number-place g xs n place e
-
-module _ (g : ℕ) (xs : List GroupRecord) (n place : ℕ) where
-  from-outcome : (o : Outcome (List Row)) → unlessRefused o (groupNumber g xs) ≡ refused n (place ∷ []) → o ≡ refused n (place ∷ [])
-  from-outcome (done rs) e = absurd (number-place g xs n place e)
-  from-outcome (refused m carried) e = let p : m ≡ n = cc in let q : carried ≡ place ∷ [] = cc in rw (p, q)
-
-pub group-refused : (s : List ℕ) (g n place : ℕ) → (groupAt s g ≡ refused n (place ∷ [])) ↔ (filing s ≡ refused n (place ∷ []))
+pub at-refused : (s : List ℕ) (g n : ℕ) (carried : List ℕ) → refused n carried ≡ said length (walk s) → refused n carried ≡ groupAt s g
 unfolding groupAt
-group-refused s g n place = (
-  (λ e. from-outcome g (groupsIn (unitsIn (cut s .chunks))) n place (filing s) e),
-  λ e. ap (λ (o : Outcome (List Row)). unlessRefused o (groupNumber g (groupsIn (unitsIn (cut s .chunks))))) e,
-)
-
--- ── any stream ──
-
-no-place : {P A : Type 0} {m p n : ℕ} {ps : List ℕ} → _≡_ {A = Outcome A} (refused m (p ∷ ps)) (refused n []) → P
-no-place {p = p} {ps = ps} e = let z : _≡_ {A = List ℕ} (p ∷ ps) [] = cc in let y : _≡_ {A = ℕ} 0 1 = cc in absurd (omega arith)
-
-added : (r : Row) (o : Outcome (List Row)) (n : ℕ) → addRow r o ≡ refused n [] → o ≡ refused n []
-added r (done rs) n e = not-refused e
-added r (refused m carried) n e = let p : m ≡ n = cc in let q : carried ≡ [] = cc in rw (p, q)
-
--- filing's refusals carry a place
-file-place : (cs : List (List ℕ)) (q : State) (at n : ℕ) → fileFrom cs q at ≡ refused n [] → ⊥
-unfolding fileFrom
-file-place [] q at n e = by-test (final q) (λ t. not-refused (rw t at e)) (λ f. no-place (rw f at e))
-file-place ([] ∷ cs) q at n e = no-place e
-file-place ((c ∷ b) ∷ cs) q at n e = by-step (step q u) (λ q′. file-place cs q′ (at + length (bytes u)) n) e
+at-refused s g n carried e = by-outcome (walk s) e
   where
-    u : StreamUnit
-    u = record { code = c; body = b }
-
-    by-step : (t : Step) → ((q′ : State) → fileFrom cs q′ (at + length (bytes u)) ≡ refused n [] → ⊥)
-        → continue t at (λ q′. addRow (rowAt q at u) (fileFrom cs q′ (at + length (bytes u)))) ≡ refused n [] → ⊥
-    by-step (stop m) ih e = no-place e
-    by-step (go q′) ih e = ih q′ (added (rowAt q at u) (fileFrom cs q′ (at + length (bytes u))) n e)
-
-filing-place : (s : List ℕ) (n : ℕ) → filing s ≡ refused n [] → ⊥
-unfolding filing filingOfAny
-filing-place s n e =
-    by-test (ltb longestStream (length s))
-    (λ t. no-place (rw t at e))
-    (λ f. by-test (begins s) (λ b. file-place (cut s .chunks) Start 0 n (rw (f, b) at e)) (λ b. no-place (rw (f, b) at e)))
-
-same-refusal : (n : ℕ) (carried : List ℕ) → _≡_ {A = Outcome GroupRecord} (refused n carried) (refused NO-ROW []) → _≡_ {A = Outcome (List Row)} (refused n carried) (refused NO-ROW [])
-same-refusal n carried e = let p : n ≡ NO-ROW = cc in let q : carried ≡ [] = cc in rw (p, q)
-
-module _ (s : List ℕ) (g : ℕ) where
-  by-filing : (o : Outcome (List Row)) → filing s ≡ o → groupAt s g ≡ unlessRefused o (groupNumber g (groupsIn (unitsIn (cut s .chunks))))
-  unfolding groupAt
-  by-filing o e = ap (λ (y : Outcome (List Row)). unlessRefused y (groupNumber g (groupsIn (unitsIn (cut s .chunks))))) e
-
-  -- a record or NO ROW is of a stream that has a reading
-  record-read : (x : GroupRecord) → groupAt s g ≡ done x → (o : Outcome (List Row)) → filing s ≡ o → (length s ≤ longestStream) × ((r : Reading) × Reads s r)
-  record-read x e (done rs) f = let k = filed-iff s rs .0 f in (k .0, (k .1 .0, k .1 .1))
-  record-read x e (refused n carried) f = not-done (sym (by-filing (refused n carried) f) ∙ e)
-
-  row-read : groupAt s g ≡ refused NO-ROW [] → (o : Outcome (List Row)) → filing s ≡ o → (length s ≤ longestStream) × ((r : Reading) × Reads s r)
-  row-read e (done rs) f = let k = filed-iff s rs .0 f in (k .0, (k .1 .0, k .1 .1))
-  row-read e (refused n carried) f = absurd (filing-place s NO-ROW (f ∙ same-refusal n carried (sym (by-filing (refused n carried) f) ∙ e)))
-
-  pub group-exactly : GroupByReading s g
-  group-exactly = record {
-    given = λ x. (
-      (λ e. let k = record-read x e (filing s) refl in (k .0, (k .1 .0, k .1 .1, group-is s (k .1 .0) (k .0) (k .1 .1) g .given x .0 e))),
-      λ h. group-is s (h .1 .0) (h .0) (h .1 .1) g .given x .1 (h .1 .2),
-    );
-    no-row = (
-      (λ e. let k = row-read e (filing s) refl in (k .0, (k .1 .0, k .1 .1, group-is s (k .1 .0) (k .0) (k .1 .1) g .no-row .0 e))),
-      λ h. group-is s (h .1 .0) (h .0) (h .1 .1) g .no-row .1 (h .1 .2),
-    );
-    refusal = λ n place. group-refused s g n place;
-  }
+    by-outcome : (w : Walk) → refused n carried ≡ said length w → refused n carried ≡ andThen (said (map unitOf) w) (groupIn g)
+    by-outcome (good ms) e = not-done e
+    by-outcome (bad x) e = let p : n ≡ reasons.reasonNumber (x .reason) = cc in let q : carried ≡ x .place ∷ [] = cc in rw (p, q)
 
 -- ── answers and their numbers ──
 
-pub group-says-one : (a b : GroupAnswer) → groupSays a ≡ groupSays b → a ≡ b
-group-says-one (answer.Group h d) (answer.Group k f) e =
-    let same : _≡_ {A = GroupRecord} (record { header = h; display = d }) (record { header = k; display = f }) = cc in
-    ap (λ (x : GroupRecord). answer.Group (x .header) (x .display)) same
-group-says-one (answer.Group h d) answer.NoRow e = not-refused e
-group-says-one (answer.Group h d) (answer.Refused r) e = not-refused e
-group-says-one answer.NoRow (answer.Group h d) e = not-done e
-group-says-one answer.NoRow answer.NoRow e = refl
-group-says-one answer.NoRow (answer.Refused r) e = let z : _≡_ {A = List ℕ} [] (r .place ∷ []) = cc in let y : _≡_ {A = ℕ} 0 1 = cc in absurd (omega arith)
-group-says-one (answer.Refused r) (answer.Group h d) e = not-done e
-group-says-one (answer.Refused r) answer.NoRow e = let z : _≡_ {A = List ℕ} [] (r .place ∷ []) = cc in let y : _≡_ {A = ℕ} 0 1 = cc in absurd (omega arith)
-group-says-one (answer.Refused r) (answer.Refused q) e =
-    let n : reasonNumber (r .reason) ≡ reasonNumber (q .reason) = cc in
-    let p : r .place ≡ q .place = cc in
-    let w = filing-says-one (filed.Refused r) (filed.Refused q) (λ i. refused (n i) (p i ∷ [])) in
-    let same : r ≡ q = cc in
-    ap answer.Refused same
+pub group-one-to-one : OneToOne groupSays
+group-one-to-one = undone groupSays back is
+  where
+    back : Outcome GroupRecord → GroupAnswer
+    back (done x) = answer.Group (x .header) (x .display)
+    back (refused n []) = answer.NoRow
+    back (refused n (place ∷ more)) = answer.Refused (refusalOf n (place ∷ more))
+
+    is : (a : GroupAnswer) → back (groupSays a) ≡ a
+    is (answer.Group h d) = refl
+    is answer.NoRow = refl
+    is (answer.Refused r) = ap answer.Refused (refusal-undone r)

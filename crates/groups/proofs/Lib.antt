@@ -1,3 +1,4 @@
+-- The laws of the walk and of readings, and the theorems.
 pub mod Walk
 pub mod Readings
 pub mod Exactly

@@ -4,27 +4,27 @@ use mathlib.Core.Path.{_≡_}
 use mathlib.Core.Logic.{_↔_}
 use mathlib.Core.List.{List, [], _∷_}
 use lib.ListN.{length}
-use Rattle.answers.specs.Answers.{refused}
-use Rattle.grammar.specs.Grammar.{Reading, Reads}
-use Rattle.grammar.specs.Reader.{filing}
+use Rattle.answers.specs.Answers.{refused, OneToOne}
 use Rattle.answers.specs.Limits.{longestStream}
-use Rattle.groups.specs.Groups.{groupAt, groupSays}
-use Rattle.groups.specs.Readings.{GroupOfReading, GroupByReading}
-use Rattle.groups.specs.declared.GroupAnswer.{GroupAnswer}
+use Rattle.grammar.specs.Grammar.{Reading, Reads}
+use Rattle.grammar.specs.Reasons.{Numbered}
+use Rattle.grammar.specs.Refusals.{Refuses}
+use Rattle.groups.specs.Groups.{groupSays, GroupOfReading, GroupByReading}
+use Rattle.groups.specs.Reader.{groupAt}
 use Rattle.groups.proofs.Exactly as proof
 
 -- Of a stream within the limit and with a reading: the record of the reading's group g, or NO ROW where it has no such group.
-pub group-is : (s : List ℕ) (r : Reading) → length s ≤ longestStream → Reads s r → (g : ℕ) → GroupOfReading s r g
-group-is = proof.group-is
+pub group-is : (s : List ℕ) (r : Reading) → length s ≤ longestStream → Reads s r → (g : ℕ) → GroupOfReading r g (groupAt s g)
+group-is s r h k g = proof.group-is s g r h k
 
 -- Of any stream: a record, NO ROW and a refusal, each exactly where it is answered.
-pub group-exactly : (s : List ℕ) (g : ℕ) → GroupByReading s g
+pub group-exactly : (s : List ℕ) (g : ℕ) → GroupByReading s g (groupAt s g)
 group-exactly = proof.group-exactly
 
--- A refusal with a place is filing's, rows aside.
-pub group-refused : (s : List ℕ) (g n place : ℕ) → (groupAt s g ≡ refused n (place ∷ [])) ↔ (filing s ≡ refused n (place ∷ []))
+-- A refusal with a place is the stream's, rows aside.
+pub group-refused : (s : List ℕ) (g n place : ℕ) → (groupAt s g ≡ refused n (place ∷ [])) ↔ Numbered (Refuses s) n place
 group-refused = proof.group-refused
 
--- Two answers of `group_at` with one number and one value are one answer.
-pub group-says-one : (a b : GroupAnswer) → groupSays a ≡ groupSays b → a ≡ b
-group-says-one = proof.group-says-one
+-- No two answers say the same.
+pub group-one-to-one : OneToOne groupSays
+group-one-to-one = proof.group-one-to-one

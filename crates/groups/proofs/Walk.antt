@@ -8,21 +8,20 @@ use lib.ListN.{length, drop}
 use lib.Seq.{drop-length}
 use borrow.Author.Tests.{ltb-true, ltb-false}
 use native.Mathlib.Omega.{arith}
-use Rattle.answers.specs.Answers.{Outcome, done, refused, mapDone, NO-ROW}
+use Rattle.answers.specs.Answers.{Outcome, done, refused, andThen, NO-ROW}
 use Rattle.bits.proofs.Lists.{by-test}
-use Rattle.answers.proofs.Outcomes.{not-done, not-refused}
+use Rattle.startcode.specs.Kinds.{kindOf}
 use Rattle.startcode.specs.Prefix.{begins, nextPrefix}
 use Rattle.startcode.proofs.Laws.{search-start, search-hit}
+use Rattle.layout.specs.Reader.{headerOf}
 use Rattle.grammar.specs.Grammar.{StreamUnit}
-use Rattle.grammar.specs.Rows.{Row}
-use Rattle.grammar.specs.Reader.{cut, filing, filingOfAny}
-use Rattle.answers.specs.Limits.{longestStream}
+use Rattle.grammar.specs.Reader.{cut}
 use Rattle.grammar.proofs.Walk.{prefix-fits, chunks-cut, chunks-overlap, unitBetween, next-fits, chunks-unit, next-begins}
-use Rattle.groups.specs.Groups.{GroupRecord, unitsIn, beginsGroup, inGroupHead, displayBy, displayIn, addGroup, groupsIn, groupNumber, unlessRefused, groupAt}
-use Rattle.groups.specs.declared.Begins.{Begins}
-use Rattle.groups.specs.declared.InHead.{InHead}
+use Rattle.groups.specs.Groups.{GroupRecord}
+use Rattle.groups.specs.Reader.{inHead, displayIn, groupOf, beginsGroup, groupIn}
+use Rattle.groups.specs.declared.Display.{Display}
 use Rattle.groups.specs.declared.Display.the-variants.{NotGiven}
-use Rattle.groups.specs.Inside.{unitsFrom, Here}
+use Rattle.groups.specs.Inside.{unitsIn, unitsFrom, Here}
 
 from-chunks : (s : List ℕ) (at : ℕ) (chunks : List (List ℕ)) → cut (drop at s) .chunks ≡ chunks → unitsFrom s at ≡ unitsIn chunks
 unfolding unitsFrom
@@ -85,15 +84,6 @@ module _ (s : List ℕ) (at : ℕ) (h : Here s at) (l : at + 3 < length s) where
       (λ t. let e = over-next t in absurd (omega arith))
       (λ f. record { units = unit-units f; here = record { inside = next-fits s at prefixed l f .1; prefix = next-begins s at prefixed l f } })
 
--- ── the start ──
-
-pub here-start : (s : List ℕ) (n : ℕ) → done n ≡ mapDone length (filing s) → Here s 0
-unfolding filing filingOfAny
-here-start s n e =
-    by-test (ltb longestStream (length s))
-    (λ t. not-refused (rw t at e))
-    (λ f. by-test (begins s) (λ b. record { inside = omega arith; prefix = λ k. b }) (λ b. not-refused (rw (f, b) at e)))
-
 -- ── a group's head ──
 
 -- what holds where the display extension is sought
@@ -106,54 +96,53 @@ unfolding displayIn
 show-end s from at h e = sym (h .same ∙ ap displayIn e)
 
 -- one unit more
-pub show-next : (s : List ℕ) (from at next : ℕ) → Showing s from at → Walked s at next → (y : InHead) → y ≡ inGroupHead (unitBetween s at next) →
-    displayBy y (displayIn (unitsFrom s next)) ≡ displayIn (unitsFrom s from)
+pub show-next : (s : List ℕ) (from at next : ℕ) → Showing s from at → Walked s at next →
+    let u = unitBetween s at next in
+    inHead (kindOf (u .code)) (u .body) (displayIn (unitsFrom s next)) ≡ displayIn (unitsFrom s from)
 unfolding displayIn
-show-next s from at next h w y e = ap (λ (x : InHead). displayBy x (displayIn (unitsFrom s next))) e ∙ sym (h .same ∙ ap displayIn (w .units))
+show-next s from at next h w = sym (h .same ∙ ap displayIn (w .units))
 
 -- ── groups ──
 
 -- what holds where group g is sought, `skip` groups from here
 pub record Counting (s : List ℕ) (g skip at : ℕ) : Type 0 where
   pub here : Here s at
-  pub same : groupNumber g (groupsIn (unitsFrom s 0)) ≡ groupNumber skip (groupsIn (unitsFrom s at))
+  pub same : groupIn g (unitsFrom s 0) ≡ groupIn skip (unitsFrom s at)
 
-pub count-end : (s : List ℕ) (g skip at : ℕ) → Counting s g skip at → unitsFrom s at ≡ [] → refused NO-ROW [] ≡ groupNumber g (groupsIn (unitsFrom s 0))
-unfolding groupNumber groupsIn
-count-end s g skip at h e = sym (h .same ∙ ap (λ (us : List StreamUnit). groupNumber skip (groupsIn us)) e)
+pub count-end : (s : List ℕ) (g skip at : ℕ) → Counting s g skip at → unitsFrom s at ≡ [] → refused NO-ROW [] ≡ groupIn g (unitsFrom s 0)
+unfolding groupIn
+count-end s g skip at h e = sym (h .same ∙ ap (groupIn skip) e)
 
-pub count-next : (s : List ℕ) (g skip at next : ℕ) → Counting s g skip at → Walked s at next → (y : Begins) → y ≡ beginsGroup (unitBetween s at next) →
-    groupNumber skip (addGroup y (displayIn (unitsFrom s next)) (groupsIn (unitsFrom s next))) ≡ groupNumber g (groupsIn (unitsFrom s 0))
-unfolding groupsIn
-count-next s g skip at next h w y e =
-    ap (λ (x : Begins). groupNumber skip (addGroup x (displayIn (unitsFrom s next)) (groupsIn (unitsFrom s next)))) e
-    ∙ sym (h .same ∙ ap (λ (us : List StreamUnit). groupNumber skip (groupsIn us)) (w .units))
+module _ (u : StreamUnit) (us : List StreamUnit) where
+  -- a unit that begins no group
+  pub past-other : (skip : ℕ) → beginsGroup u ≡ false → groupIn skip (u ∷ us) ≡ groupIn skip us
+  unfolding groupIn
+  past-other zero f = rw f
+  past-other (suc n) f = rw f
 
--- the group itself, or one of those before it
-pub count-found : (skip : ℕ) (x : GroupRecord) (xs : List GroupRecord) → skip ≡ 0 → done x ≡ groupNumber skip (x ∷ xs)
-unfolding groupNumber
-count-found skip x xs e = rw e
+  -- one of the groups before it
+  pub past-group : (skip : ℕ) → beginsGroup u ≡ true → (skip ≡ 0 → ⊥) → groupIn skip (u ∷ us) ≡ groupIn (skip - 1) us
+  unfolding groupIn
+  past-group zero t h = absurd (h refl)
+  past-group (suc n) t h = rw t (ap (λ (k : ℕ). groupIn k us) (omega arith))
 
-pub count-less : (skip : ℕ) (x : GroupRecord) (xs : List GroupRecord) → (skip ≡ 0 → ⊥) → groupNumber skip (x ∷ xs) ≡ groupNumber (skip - 1) xs
-unfolding groupNumber
-count-less zero x xs h = absurd (h refl)
-count-less (suc n) x xs h = ap (λ (k : ℕ). groupNumber k xs) (omega arith)
+  -- the group itself
+  pub this-group : (skip : ℕ) → beginsGroup u ≡ true → skip ≡ 0 → groupIn skip (u ∷ us) ≡ groupOf (headerOf (u .body)) (displayIn us)
+  unfolding groupIn
+  this-group skip t e = rw (e, t)
 
--- ── the answer ──
+module _ (s : List ℕ) (g skip at next : ℕ) (h : Counting s g skip at) (w : Walked s at next) where
+  abbrev u : StreamUnit
+  u = unitBetween s at next
 
-from-done : {n : ℕ} (o : Outcome (List Row)) (x : Outcome GroupRecord) → done n ≡ mapDone length o → x ≡ unlessRefused o x
-from-done (done rows) x e = refl
-from-done (refused m carried) x e = not-refused e
+  step : groupIn g (unitsFrom s 0) ≡ groupIn skip (u ∷ unitsFrom s next)
+  step = h .same ∙ ap (groupIn skip) (w .units)
 
-from-refused : (n : ℕ) (carried : List ℕ) (o : Outcome (List Row)) (x : Outcome GroupRecord) → refused n carried ≡ mapDone length o → refused n carried ≡ unlessRefused o x
-from-refused n carried (done rows) x e = not-done e
-from-refused n carried (refused m carried′) x e = let p : n ≡ m = cc in let q : carried ≡ carried′ = cc in rw (p, q)
+  pub count-other : beginsGroup u ≡ false → Counting s g skip next
+  count-other f = record { here = w .here; same = step ∙ past-other u (unitsFrom s next) skip f }
 
-module _ (s : List ℕ) (g : ℕ) where
-  pub at-good : (n : ℕ) → done n ≡ mapDone length (filing s) → groupNumber g (groupsIn (unitsFrom s 0)) ≡ groupAt s g
-  unfolding groupAt unitsFrom
-  at-good n e = from-done (filing s) _ e
+  pub count-group : beginsGroup u ≡ true → (skip ≡ 0 → ⊥) → Counting s g (skip - 1) next
+  count-group t n = record { here = w .here; same = step ∙ past-group u (unitsFrom s next) skip t n }
 
-  pub at-refused : (n : ℕ) (carried : List ℕ) → refused n carried ≡ mapDone length (filing s) → refused n carried ≡ groupAt s g
-  unfolding groupAt
-  at-refused n carried e = from-refused n carried (filing s) _ e
+  pub count-found : beginsGroup u ≡ true → skip ≡ 0 → groupOf (headerOf (u .body)) (displayIn (unitsFrom s next)) ≡ groupIn g (unitsFrom s 0)
+  count-found t e = sym (step ∙ this-group u (unitsFrom s next) skip t e)

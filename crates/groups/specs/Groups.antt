@@ -1,24 +1,22 @@
 -- Document 01, "Rows": asked for group g of a stream, counted from 0, the answer is the stream's refusal (rows aside), or NO ROW,
 -- or the header record with the display extension given or not given.
-use Prim.Native.Nat.{ℕ, zero, suc}
-use mathlib.Core.List.{List, [], _∷_}
-use mathlib.Core.Bool.{cond}
-use lib.Dec.{eqb}
+use Prim.Native.Nat.{ℕ, _≤_}
+use mathlib.Core.Path.{_≡_}
+use mathlib.Core.Logic.{_↔_}
+use mathlib.Core.List.{List, [], _∷_, _++_}
+use lib.ListN.{length}
 use Rattle.answers.specs.Answers.{Outcome, done, refused, NO-ROW}
-use Rattle.layout.specs.Answers.{Extension, display, copyright, opaque}
-use Rattle.layout.specs.Reader.{headerOf, extensionOf}
-use Rattle.layout.specs.declared.Place.the-variants as place
+use Rattle.answers.specs.Limits.{longestStream}
+use Rattle.bits.specs.Lists.{All}
+use Rattle.layout.specs.Obeys.{DisplayBody}
+use Rattle.layout.specs.declared.DisplayExtension.{DisplayExtension}
 use Rattle.layout.specs.declared.SequenceHeader.{SequenceHeader}
-use Rattle.grammar.specs.Grammar.{StreamUnit}
-use Rattle.grammar.specs.Rows.{Row}
-use Rattle.grammar.specs.Reader.{cut, filing}
-use Rattle.filing.specs.Units.{reasonNumber}
-use Rattle.groups.specs.declared.Begins.{Begins}
-use Rattle.groups.specs.declared.Begins.the-variants as begins
+use Rattle.grammar.specs.Grammar.{StreamUnit, Group, Reading, Reads, IsHeader, DisplayUnit}
+use Rattle.grammar.specs.Reasons as reasons
+use Rattle.grammar.specs.Refusals.{Refuses}
+use Rattle.filing.specs.Filing.{reasonNumber}
 use Rattle.groups.specs.declared.Display.{Display}
 use Rattle.groups.specs.declared.Display.the-variants as displayed
-use Rattle.groups.specs.declared.InHead.{InHead}
-use Rattle.groups.specs.declared.InHead.the-variants as inHead
 use Rattle.groups.specs.declared.GroupAnswer.{GroupAnswer}
 use Rattle.groups.specs.declared.GroupAnswer.the-variants as answer
 
@@ -27,71 +25,53 @@ pub record GroupRecord : Type 0 where
   pub header : SequenceHeader
   pub display : Display
 
--- ── units ──
-
--- the units before the first empty chunk; a stream that is filed has no empty one
-unfoldable pub unitsIn : List (List ℕ) → List StreamUnit
-unitsIn [] = []
-unitsIn ([] ∷ chunks) = []
-unitsIn ((code ∷ body) ∷ chunks) = record { code = code; body = body } ∷ unitsIn chunks
-
--- B0 begins a group, with its header record
-abbrev pub headed : Outcome SequenceHeader → Begins
-headed (done header) = begins.Group header
-headed (refused number carried) = begins.Nothing
-
-unfoldable pub beginsGroup : StreamUnit → Begins
-beginsGroup u = cond (eqb (u .code) 0xB0) (headed (headerOf (u .body))) begins.Nothing
-
--- Number 2 in a group's head is the display extension.
-abbrev pub shown : Outcome Extension → InHead
-shown (done (display d)) = inHead.Display d
-shown (done (copyright c)) = inHead.Other
-shown (done (opaque number)) = inHead.Other
-shown (refused number carried) = inHead.Other
-
--- A group's head is what stands before its first picture: B2 and B5.
-unfoldable pub inGroupHead : StreamUnit → InHead
-inGroupHead u = cond (eqb (u .code) 0xB2) inHead.Other (cond (eqb (u .code) 0xB5) (shown (extensionOf place.Head (u .body))) inHead.Past)
-
--- ── groups ──
-
-abbrev pub displayBy : InHead → Display → Display
-displayBy (inHead.Display d) rest = displayed.Given d
-displayBy inHead.Other rest = rest
-displayBy inHead.Past rest = displayed.NotGiven
-
--- the display extension of the head that these units go on
-unfoldable pub displayIn : List StreamUnit → Display
-displayIn [] = displayed.NotGiven
-displayIn (u ∷ us) = displayBy (inGroupHead u) (displayIn us)
-
-abbrev pub addGroup : Begins → Display → List GroupRecord → List GroupRecord
-addGroup (begins.Group header) d rest = record { header = header; display = d } ∷ rest
-addGroup begins.Nothing d rest = rest
-
-unfoldable pub groupsIn : List StreamUnit → List GroupRecord
-groupsIn [] = []
-groupsIn (u ∷ us) = addGroup (beginsGroup u) (displayIn us) (groupsIn us)
-
--- ── the answer ──
-
--- number g, counted from 0, or NO ROW
-unfoldable pub groupNumber : ℕ → List GroupRecord → Outcome GroupRecord
-groupNumber g [] = refused NO-ROW []
-groupNumber zero (x ∷ xs) = done x
-groupNumber (suc g) (x ∷ xs) = groupNumber g xs
-
--- the stream's refusal, rows aside, comes first
-abbrev pub unlessRefused : Outcome (List Row) → Outcome GroupRecord → Outcome GroupRecord
-unlessRefused (done rows) answer = answer
-unlessRefused (refused number carried) answer = refused number carried
-
-unfoldable pub groupAt : List ℕ → ℕ → Outcome GroupRecord
-groupAt stream g = unlessRefused (filing stream) (groupNumber g (groupsIn (unitsIn (cut stream .chunks))))
-
 -- the numbers of the answers
 abbrev pub groupSays : GroupAnswer → Outcome GroupRecord
 groupSays (answer.Group header d) = done (record { header = header; display = d })
 groupSays answer.NoRow = refused NO-ROW []
 groupSays (answer.Refused r) = refused (reasonNumber (r .reason)) (r .place ∷ [])
+
+-- ── group g of a reading ──
+
+-- one of these units is a display extension with this record
+pub record Shows (extras : List StreamUnit) (d : DisplayExtension) : Type 0 where
+  pub before : List StreamUnit
+  pub unit : StreamUnit
+  pub after : List StreamUnit
+  pub is : extras ≡ before ++ unit ∷ after
+  pub display : DisplayUnit unit
+  pub body : DisplayBody (unit .body) d
+
+-- given where a unit of the head is one, not given where none is
+abbrev pub DisplayIs : List StreamUnit → Display → Type 0
+DisplayIs extras (displayed.Given d) = Shows extras d
+DisplayIs extras displayed.NotGiven = All (λ u. ¬ DisplayUnit u) extras
+
+-- the header record and the display extension of a group
+pub record GroupIs (group : Group) (x : GroupRecord) : Type 0 where
+  pub header : IsHeader (group .head .body) (x .header)
+  pub display : DisplayIs (group .extras) (x .display)
+
+-- group g, counted from 0
+pub record Numbered (g : ℕ) (groups : List Group) (group : Group) : Type 0 where
+  pub before : List Group
+  pub after : List Group
+  pub is : groups ≡ before ++ group ∷ after
+  pub count : length before ≡ g
+
+-- what is answered for group g of a stream with this reading
+pub record GroupOfReading (r : Reading) (g : ℕ) (o : Outcome GroupRecord) : Type 0 where
+  -- a record exactly where the reading has group g and the record is its own
+  pub given : (x : GroupRecord) → (o ≡ done x) ↔ ((group : Group) × Numbered g (r .groups) group × GroupIs group x)
+  -- NO ROW exactly where g is at least the number of groups
+  pub no-row : (o ≡ refused NO-ROW []) ↔ (length (r .groups) ≤ g)
+
+-- what is answered for group g of any stream
+pub record GroupByReading (stream : List ℕ) (g : ℕ) (o : Outcome GroupRecord) : Type 0 where
+  -- a record exactly where the stream is within the limit and has a reading whose group g has it
+  pub given : (x : GroupRecord) →
+      (o ≡ done x) ↔ ((length stream ≤ longestStream) × ((r : Reading) × Reads stream r × ((group : Group) × Numbered g (r .groups) group × GroupIs group x)))
+  -- NO ROW exactly where it is within the limit and has a reading with no group g
+  pub no-row : (o ≡ refused NO-ROW []) ↔ ((length stream ≤ longestStream) × ((r : Reading) × Reads stream r × (length (r .groups) ≤ g)))
+  -- any other refusal exactly where the stream is refused, rows aside, with its number and its place
+  pub refusal : (n place : ℕ) → (o ≡ refused n (place ∷ [])) ↔ reasons.Numbered (Refuses stream) n place

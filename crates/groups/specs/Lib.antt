@@ -1,4 +1,4 @@
 -- What is answered for group g of a stream.
 pub mod Groups
-pub mod Readings
+pub mod Reader
 pub mod Inside

@@ -6,15 +6,16 @@ use layout::ExtensionAnswer;
 use layout::HeaderAnswer;
 use layout::Place;
 use layout::SequenceHeader;
+use startcode::Kind;
+use startcode::UnitKind;
 ghost use mathlib.Core.Path.{_≡_};
-ghost use Rattle.groups.specs.Groups.{beginsGroup, inGroupHead, displayIn, groupsIn, groupNumber, groupAt, groupSays};
-ghost use Rattle.groups.specs.Inside.{unitsFrom, Here};
-
-const SEQUENCE_HEADER: u8 = 0xB0;
-
-const USER_DATA: u8 = 0xB2;
-
-const EXTENSION: u8 = 0xB5;
+ghost use Rattle.answers.specs.Answers.{done};
+ghost use Rattle.layout.specs.Reader.{headerOf, extensionOf};
+ghost use Rattle.startcode.specs.Kinds.{kindOf};
+ghost use Rattle.grammar.specs.Reader.{isKind};
+ghost use Rattle.groups.specs.Groups.{groupSays};
+ghost use Rattle.groups.specs.Reader.{shown, inHead, displayIn, groupOf, groupIn, groupAt};
+ghost use Rattle.groups.specs.Inside.{Shows, unitsFrom, Here};
 
 // The display extension of a group's head.
 pub enum Display {
@@ -28,12 +29,6 @@ pub enum GroupAnswer {
     Refused(Refusal),
 }
 
-// What a unit begins: a group, with its header record, or nothing.
-enum Begins {
-    Group(SequenceHeader),
-    Nothing,
-}
-
 // What a unit after a sequence header is: the display extension, another unit of the group's head, or past it.
 enum InHead {
     Display(DisplayExtension),
@@ -41,27 +36,36 @@ enum InHead {
     Past,
 }
 
-fn begins_group(code: u8, body: &[u8]) -> Begins
-    ensures { λ r. ⌜ r ≡ beginsGroup (record { code = code; body = now (body .entry) }) ⌝ }
+// ── one unit ──
+
+fn is_header(kind: Kind) -> bool
+    ensures { λ r. ⌜ r ≡ isKind Kind.SequenceHeader (done kind) ⌝ }
 {
-    if code != SEQUENCE_HEADER {
-        return Begins::Nothing;
-    }
-    match layout::sequence_header(body) {
-        HeaderAnswer::Header(header) => Begins::Group(header),
-        HeaderAnswer::Refused(_) => Begins::Nothing,
+    match kind {
+        Kind::SequenceHeader => true,
+        Kind::Slice => false,
+        Kind::SequenceEnd => false,
+        Kind::UserData => false,
+        Kind::IPicture => false,
+        Kind::Extension => false,
+        Kind::PBPicture => false,
+        Kind::EditCode => false,
     }
 }
 
-fn in_group_head(code: u8, body: &[u8]) -> InHead
-    ensures { λ r. ⌜ r ≡ inGroupHead (record { code = code; body = now (body .entry) }) ⌝ }
+// Whether a unit with this code begins a group.
+fn begins_group(code: u8) -> bool
+    ensures { λ r. ⌜ r ≡ isKind Kind.SequenceHeader (kindOf code) ⌝ }
 {
-    if code == USER_DATA {
-        return InHead::Other;
+    match startcode::kind_of(code) {
+        UnitKind::Is(kind) => is_header(kind),
+        UnitKind::Unknown => false,
     }
-    if code != EXTENSION {
-        return InHead::Past;
-    }
+}
+
+fn head_extension(body: &[u8]) -> InHead
+    ensures { λ r. ⌜ Shows r (shown (extensionOf Place.Head (now (body .entry)))) ⌝ }
+{
     match layout::extension(body, Place::Head) {
         ExtensionAnswer::Display(d) => InHead::Display(d),
         ExtensionAnswer::Copyright(_) => InHead::Other,
@@ -69,6 +73,33 @@ fn in_group_head(code: u8, body: &[u8]) -> InHead
         ExtensionAnswer::Refused(_) => InHead::Other,
     }
 }
+
+fn head_unit(kind: Kind, body: &[u8]) -> InHead
+    ensures { λ r. ⌜ Shows r (inHead (done kind) (now (body .entry))) ⌝ }
+{
+    match kind {
+        Kind::UserData => InHead::Other,
+        Kind::Extension => head_extension(body),
+        Kind::Slice => InHead::Past,
+        Kind::SequenceHeader => InHead::Past,
+        Kind::SequenceEnd => InHead::Past,
+        Kind::IPicture => InHead::Past,
+        Kind::PBPicture => InHead::Past,
+        Kind::EditCode => InHead::Past,
+    }
+}
+
+// What a unit of a group's head says, by its code.
+fn in_group_head(code: u8, body: &[u8]) -> InHead
+    ensures { λ r. ⌜ Shows r (inHead (kindOf code) (now (body .entry))) ⌝ }
+{
+    match startcode::kind_of(code) {
+        UnitKind::Is(kind) => head_unit(kind, body),
+        UnitKind::Unknown => InHead::Past,
+    }
+}
+
+// ── from an offset on ──
 
 // The display extension of the group's head that goes on at an offset.
 fn display_from(stream: &[u8], from: usize) -> Display
@@ -100,10 +131,21 @@ fn display_from(stream: &[u8], from: usize) -> Display
     Display::NotGiven
 }
 
-// Group g of a stream that begins with a start code.
+// The group whose sequence header has this body; its head goes on at an offset.
+fn group_here(stream: &[u8], body: &[u8], from: usize) -> GroupAnswer
+    requires { ⌜ Here (now stream) from ⌝ }
+    ensures { λ r. ⌜ groupSays r ≡ groupOf (headerOf (now (body .entry))) (displayIn (unitsFrom (now (stream .entry)) from)) ⌝ }
+{
+    match layout::sequence_header(body) {
+        HeaderAnswer::Header(header) => GroupAnswer::Group(header, display_from(stream, from)),
+        HeaderAnswer::Refused(_) => GroupAnswer::NoRow,
+    }
+}
+
+// Group g of a stream that begins with a start code. Of the groups before it nothing is read but the codes.
 fn group_number(stream: &[u8], g: usize) -> GroupAnswer
     requires { ⌜ Here (now stream) 0 ⌝ }
-    ensures { λ r. ⌜ groupSays r ≡ groupNumber g (groupsIn (unitsFrom (now (stream .entry)) 0)) ⌝ }
+    ensures { λ r. ⌜ groupSays r ≡ groupIn g (unitsFrom (now (stream .entry)) 0) ⌝ }
 {
     let mut skip = g;
     let mut at: usize = 0;
@@ -114,20 +156,13 @@ fn group_number(stream: &[u8], g: usize) -> GroupAnswer
         if end < body_at {
             return GroupAnswer::NoRow;
         }
-        let code = stream[code_at];
-        let body = &stream[body_at..end];
-        match begins_group(code, body) {
-            Begins::Group(header) => {
-                if skip == 0 {
-                    return GroupAnswer::Group(header, display_from(stream, end));
-                }
-                skip -= 1;
-                at = end;
+        if begins_group(stream[code_at]) {
+            if skip == 0 {
+                return group_here(stream, &stream[body_at..end], end);
             }
-            Begins::Nothing => {
-                at = end;
-            }
+            skip -= 1;
         }
+        at = end;
     }
     GroupAnswer::NoRow
 }

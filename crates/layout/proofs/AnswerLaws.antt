@@ -46,6 +46,15 @@ module _ (layout : Layout) (body : List ℕ) (r : Body) (says : bodySays layout 
   unfolding recordOf
   record-made make a e m = ap (λ (x : Result (List ℕ)). x >>= (λ vs. recorded (make vs))) (read-is Fine e) ∙ ap recorded m
 
+  -- the same of an extension
+  pub extension-refused : {A : Type 0} (make : List ℕ → Option A) (wrap : A → Extension) (why : Fault) → r .verdict ≡ Faulty why →
+      (recordOf layout make body >>= (λ a. good (wrap a))) ≡ bad why
+  extension-refused {A} make wrap why e = ap (λ (x : Result A). x >>= (λ a. good (wrap a))) (record-refused make why e)
+
+  pub extension-made : {A : Type 0} (make : List ℕ → Option A) (wrap : A → Extension) (a : A) → r .verdict ≡ Fine → make (take (length (fields layout)) (r .values)) ≡ some a →
+      (recordOf layout make body >>= (λ a. good (wrap a))) ≡ good (wrap a)
+  extension-made {A} make wrap a e m = ap (λ (x : Result A). x >>= (λ a. good (wrap a))) (record-made make a e m)
+
 -- a refusal's number
 pub refused-by : {A : Type 0} (number : ℕ) (why : Fault) → number ≡ faultNumber why → _≡_ {A = Outcome A} (refused number []) (answerOf (bad why))
 unfolding answerOf

@@ -1,6 +1,6 @@
 -- Reading a header, a display extension or any extension refuses exactly where its body breaks what document 01 says of it.
 use Prim.Native.Nat.{ℕ, _<_}
-use mathlib.Core.Path.{_≡_, refl, sym, ap, _∙_}
+use mathlib.Core.Path.{_≡_, refl, sym, ap, _∙_, subst}
 use mathlib.Core.Logic.{_≢_, inl, inr, _↔_}
 use mathlib.Core.List.{List, [], _∷_}
 use mathlib.Core.Bool.{true, false, cond, _&&_, _||_, or-true, false≢true}
@@ -11,8 +11,8 @@ use lib.Dec.{eqb, ltb}
 use lib.ListN.{length, getD}
 use lib.Seq.{drop-cons}
 use Rattle.answers.proofs.Results.{not-bad}
-use Rattle.answers.specs.Answers.{refused}
-use Rattle.bits.specs.Bits.{bitsIn, bitsOf, bitAt, readOn, readAt}
+use Rattle.answers.specs.Answers.{refused, SHORT}
+use Rattle.bits.specs.Bits.{bitsOf, bitAt, readOn, readAt}
 use Rattle.bits.specs.declared.Bit.{Bit}
 use Rattle.bits.specs.declared.Bit.the-variants as bit
 use Rattle.bits.specs.declared.Read.the-variants.{Value}
@@ -21,22 +21,25 @@ use Rattle.bits.proofs.Laws.{length-bits, all-bits, bit-here, bit-small}
 use Rattle.layout.specs.Layouts.{fields, leastBytes}
 use Rattle.layout.specs.Records.{headerRecord, plainRecord, colouredRecord, copyrightRecord}
 use Rattle.layout.specs.Obeys.{Fits}
-use Rattle.layout.specs.Reader.{Result, short, answerOf, recordOf, headerResult, plainOf, colouredOf, copyrightOf, isOne, displayShort, displayOf, numberOf, notCopyright, byNumber, extensionResult}
+use Rattle.layout.specs.Reader.{Result, short, answerOf, recordOf, headerResult, plainOf, colouredOf, copyrightOf, isOne, displayShort, displayOf, numberOf, notCopyright, byNumber, extensionResult, extensionOf}
 use Rattle.answers.specs.Results.{good, bad, _>>=_}
-use Rattle.layout.specs.Answers.{Extension, display, copyright, opaque}
-use Rattle.layout.specs.Breaks.{Breaks, Numbered, ColourGiven, ShortDisplay, BreaksDisplay, short-display, coloured, plain, BreaksExtension, empty}
+use Rattle.layout.specs.Answers.{faultNumber, Extension, display, copyright}
+use Rattle.layout.specs.Breaks.{Breaks, ColourGiven, ShortDisplay, BreaksDisplay, short-display, coloured, plain, BreaksExtension, empty}
 use Rattle.layout.specs.Breaks as breaks
+use Rattle.layout.specs.Extensions.{HasNumber}
 use Rattle.layout.specs.declared.Layout.{Layout}
 use Rattle.layout.specs.declared.Layout.the-variants.{Header, Display, Coloured, Copyright}
 use Rattle.layout.specs.declared.Fault.{Fault}
-use Rattle.layout.specs.declared.Fault.the-variants.{Short}
+use Rattle.layout.specs.declared.Fault.the-variants.{Short, Marker, Stuffing}
+use Rattle.layout.specs.declared.Fault.the-variants as fault
 use Rattle.layout.specs.declared.Place.{Place}
 use Rattle.layout.specs.declared.Place.the-variants.{Head, Picture}
 use Rattle.layout.specs.declared.CopyrightExtension.{CopyrightExtension}
 use Rattle.layout.proofs.LayoutLaws.{fits-length, spelled}
+use Rattle.layout.proofs.NumberLaws.{number-iff, has-number}
 use Rattle.layout.proofs.AnswerLaws.{display-short, display-long}
-use Rattle.layout.proofs.BreakLaws.{breaks-if, if-breaks}
-use Rattle.layout.proofs.ExtensionLaws.{record-bad, bad-record, wrapped-bad, header-made, plain-made, coloured-made}
+use Rattle.layout.proofs.BreakLaws.{breaks-if, if-breaks, short-breaks}
+use Rattle.layout.proofs.ExtensionLaws.{answer-refused, record-bad, bad-record, wrapped-bad, header-made, plain-made, coloured-made, display-result}
 
 -- ── records ──
 
@@ -70,16 +73,12 @@ copyright-bad : (body : List ℕ) (why : Fault) → (copyrightOf body ≡ bad wh
 unfolding copyrightOf
 copyright-bad body why = wrapped-breaks Copyright copyrightRecord copyright-made body why copyright
 
--- a result is refused with the number of its why
-pub answer-refused : {A : Type 0} (r : Result A) (Broken : Fault → Type 0) → ((why : Fault) → (r ≡ bad why) ↔ Broken why) → (n : ℕ) → (answerOf r ≡ refused n []) ↔ Numbered Broken n
-unfolding answerOf
-answer-refused (good a) Broken iff n = (
-  (λ e. let z : _≡_ {A = ℕ} 0 1 = cc in absurd (omega arith)),
-  λ b. not-bad (iff (b .0) .1 (b .1)),
-)
-answer-refused (bad f) Broken iff n = (
-  (λ e. (f, iff f .0 refl, cc)),
-  λ b. let e = iff (b .0) .1 (b .1) in let m = b .2 in let s : f ≡ b .0 = cc in rw (s, m),
+-- a result that is bad exactly for what is broken is refused with the number of that
+pub refused-iff : {A : Type 0} (r : Result A) (Broken : Fault → Type 0) → ((why : Fault) → (r ≡ bad why) ↔ Broken why) → (n : ℕ) →
+    (answerOf r ≡ refused n []) ↔ ((why : Fault) × Broken why × (n ≡ faultNumber why))
+refused-iff r Broken iff n = let a = answer-refused r n in (
+  (λ e. let (why, b, m) = a .0 e in (why, iff why .0 b, m)),
+  λ h. a .1 (h .0, iff (h .0) .1 (h .1), h .2),
 )
 
 -- ── display extensions ──
@@ -151,14 +150,12 @@ display-bad body why = (from-result, to-result)
 
 -- a body with a byte has a number
 pub number-there : (body : List ℕ) → body ≢ [] → (n : ℕ) × (numberOf body ≡ Value n)
-unfolding readAt readOn bitsOf bitsIn
-number-there [] n = absurd (n refl)
-number-there (byte ∷ body) n = (_, refl)
+number-there body h = let (n, k) = has-number body h in (n, number-iff body n .1 k)
 
-number-breaks : (place : Place) (body : List ℕ) (n : ℕ) (why : Fault) → numberOf body ≡ Value n → notCopyright place body n ≡ bad why → BreaksExtension place body why
+number-breaks : (place : Place) (body : List ℕ) (n : ℕ) (why : Fault) → HasNumber body n → notCopyright place body n ≡ bad why → BreaksExtension place body why
 number-breaks Head body n why i e =
     by-test (eqb n 2)
-    (λ t. breaks.display (i ∙ ap Value (eqb-true n 2 t)) refl (display-bad body why .0 (rw t at e)))
+    (λ t. breaks.display (subst (HasNumber body) (eqb-true n 2 t) i) refl (display-bad body why .0 (rw t at e)))
     (λ f. not-bad (rw f at e))
 number-breaks Picture body n why i e = not-bad e
 
@@ -167,17 +164,44 @@ unfolding extensionResult byNumber
 extension-breaks place [] why e = unfold readAt readOn bitsOf in empty refl (cc)
 extension-breaks place (byte ∷ body) why e =
     let bytes = byte ∷ body in
-    let (n, i) = number-there bytes (λ z. let y : _≡_ {A = ℕ} 0 1 = cc (ap length z) in absurd (omega arith)) in
-    let b : byNumber place bytes n ≡ bad why = rw i at e in
+    let (n, i) = has-number bytes (λ z. let y : _≡_ {A = ℕ} 0 1 = cc (ap length z) in absurd (omega arith)) in
+    let b : byNumber place bytes n ≡ bad why = rw (number-iff bytes n .1 i) at e in
     by-test (eqb n 4)
-    (λ t. breaks.copyright (i ∙ ap Value (eqb-true n 4 t)) (copyright-bad bytes why .0 (rw t at b)))
+    (λ t. breaks.copyright (subst (HasNumber bytes) (eqb-true n 4 t) i) (copyright-bad bytes why .0 (rw t at b)))
     (λ f. number-breaks place bytes n why i (rw f at b))
 
 breaks-extension : (place : Place) (body : List ℕ) (why : Fault) → BreaksExtension place body why → extensionResult place body ≡ bad why
 unfolding extensionResult byNumber
 breaks-extension place body why (empty e f) = unfold readAt readOn bitsOf in rw (e, f)
-breaks-extension place body why (breaks.copyright i b) = rw i (copyright-bad body why .1 b)
-breaks-extension place body why (breaks.display i e b) = rw (i, e) (display-bad body why .1 b)
+breaks-extension place body why (breaks.copyright i b) = rw (number-iff body 4 .1 i) (copyright-bad body why .1 b)
+breaks-extension place body why (breaks.display i e b) = rw (number-iff body 2 .1 i, e) (display-bad body why .1 b)
 
 pub extension-bad : (place : Place) (body : List ℕ) (why : Fault) → (extensionResult place body ≡ bad why) ↔ BreaksExtension place body why
 extension-bad place body why = (extension-breaks place body why, breaks-extension place body why)
+
+-- ── SHORT of a display extension ──
+
+-- nothing but its length and colour given make a display extension SHORT
+short-display-if : (body : List ℕ) → BreaksDisplay body Short → ShortDisplay body
+short-display-if body (short-display s e) = s
+short-display-if body (coloured long c b) = inr (c, short-breaks Coloured body b)
+short-display-if body (plain long c b) = inl (short-breaks Display body b)
+
+-- the number of SHORT is that of no other fault
+short-number : (why : Fault) → faultNumber why ≡ SHORT → why ≡ Short
+unfolding faultNumber
+short-number Short e = refl
+short-number (Marker at) e = absurd (omega arith)
+short-number (fault.Value name at) e = absurd (omega arith)
+short-number Stuffing e = absurd (omega arith)
+
+pub answers-short : (body : List ℕ) → HasNumber body 2 → extensionOf Head body ≡ refused SHORT [] → displayShort body ≡ true
+unfolding extensionOf
+answers-short body t e =
+    let (why, r, n) = answer-refused (extensionResult Head body) SHORT .0 e in
+    let b = display-bad body why .0 (sym (display-result body t) ∙ r) in
+    short-iff body .1 (short-display-if body (subst (BreaksDisplay body) (short-number why (sym n)) b))
+
+pub short-answers : (body : List ℕ) → HasNumber body 2 → displayShort body ≡ true → extensionOf Head body ≡ refused SHORT []
+unfolding extensionOf answerOf faultNumber
+short-answers body t s = ap answerOf (display-result body t ∙ display-short body s)

@@ -9,7 +9,7 @@ use borrow.Author.Tests.{eqb-true, eqb-false, eq-eqb, ne-eqb, ltb-true, ltb-fals
 use lib.Dec.{eqb, ltb}
 use lib.ListN.{length, take, drop, take-append-drop}
 use lib.Seq.{take-at, drop-at}
-use Rattle.answers.proofs.Results.{bad-same}
+use Rattle.answers.proofs.Results.{not-bad, bad-same}
 use Rattle.bits.specs.Lists.{All}
 use Rattle.bits.specs.Bits.{bitsOf, readOn, readAt}
 use Rattle.bits.specs.declared.Read.{Read}
@@ -40,7 +40,7 @@ use Rattle.layout.proofs.LayoutLaws.{table, fits-length, spelled}
 use Rattle.layout.proofs.ReadingLaws.{values-first}
 use Rattle.layout.proofs.JudgeLaws.{checked, reading-short, reading-long}
 use Rattle.layout.proofs.RecordLaws.{unowned-rules, owned-rules}
-use Rattle.layout.proofs.ObeyLaws.{both-fine, read-written, written-read, written-length, allowed-if, if-allowed, judge-fine, fine-judge, cross-fine, fine-cross, stuffing-is, is-stuffing}
+use Rattle.layout.proofs.ObeyLaws.{fine-then, both-fine, read-written, written-read, written-length, allowed-if, if-allowed, judge-fine, fine-judge, cross-fine, fine-cross, stuffing-is, is-stuffing}
 
 -- ── a body that is long enough has all its values ──
 
@@ -89,9 +89,6 @@ held-reading layout body vs end h = reading-long layout body (h .long) ∙ ap (c
 
 then-bad : {A : Type 0} (v : Verdict) (r : Result A) (why : Fault) → v ≡ Faulty why → (v >> r) ≡ bad why
 then-bad v r why e = rw e
-
-fine-then : {A : Type 0} (v : Verdict) (r : Result A) → v ≡ Fine → (v >> r) ≡ r
-fine-then v r e = rw e
 
 faulty-same : (a b : Fault) → Faulty a ≡ Faulty b → a ≡ b
 faulty-same a b e = cc
@@ -247,7 +244,7 @@ breaks-if layout body why e =
     let p = both-fine first (cross layout vs) f in
     let q = if-same (not (stuffing end)) fault.Stuffing why s in
     ended vs end (h .1) (fine (p .0)) (cross-fine layout vs (p .1)) (λ zeros z. contrary (stuffing end) (is-stuffing end zeros z) (not-true (stuffing end) (q .0))) (q .1))
-    (λ s g. let z : _≡_ {A = ℕ} 0 1 = cc in absurd (omega arith))))
+    (λ s g. not-bad g)))
 
 pub if-breaks : (layout : Layout) (body : List ℕ) (why : Fault) → Breaks layout body why → reading layout body ≡ bad why
 unfolding judged reader.ended
@@ -285,7 +282,7 @@ across-not-short Display vs h = h
 across-not-short Coloured vs h = h
 across-not-short Copyright vs h = disowned-not-short (h .0) (h .2)
 
-short-breaks : (layout : Layout) (body : List ℕ) → Breaks layout body fault.Short → length body < leastBytes layout
+pub short-breaks : (layout : Layout) (body : List ℕ) → Breaks layout body fault.Short → length body < leastBytes layout
 unfolding faultAt
 short-breaks layout body (short h e) = h
 short-breaks layout body (wrong vs end h w) = absurd (rule-not-short (ruleOf (w .field)) (nameOf (w .field)) (0 + bitCount (w .before)) (w .refused))

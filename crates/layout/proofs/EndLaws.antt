@@ -2,7 +2,7 @@
 use Prim.Native.Nat.{ℕ, zero, suc, _+_, _*_, _/_, _%_, _^_, _<_}
 use mathlib.Core.Path.{_≡_, refl, sym, ap, _∙_}
 use mathlib.Core.List.{List, [], _∷_, _++_}
-use mathlib.Core.Bool.{Bool, true, false, _&&_, and-assoc, and-eq-true-iff}
+use mathlib.Core.Bool.{Bool, true, false, _&&_, and-assoc}
 use native.Mathlib.Omega.{arith}
 use native.Mathlib.Numerals.{add-one}
 use borrow.Author.Tests.{eqb-true, eq-eqb, ne-eqb}
@@ -13,7 +13,7 @@ use lib.Seq.{take-all, drop-nil, drop-cons, drop-length, drop-append-add}
 use Rattle.bits.specs.Lists.{All}
 use Rattle.bits.specs.Bits.{bitsIn, bitsOf, readOn}
 use Rattle.bits.specs.declared.Read.the-variants.{Value}
-use Rattle.bits.proofs.Lists.{all-drop}
+use Rattle.bits.proofs.Lists.{all-drop, and-true}
 use Rattle.bits.proofs.Laws.{length-in, reads-written}
 use Rattle.layout.specs.Reader.{allZero, stuffing}
 
@@ -37,7 +37,7 @@ stuffing-append x l m = ap (λ (t : Bool). eqb x 1 && t) (zero-append l m) ∙ s
 pub zeros-are : (l : List ℕ) → allZero l ≡ true → l ≡ replicate (length l) 0
 zeros-are [] e = refl
 zeros-are (b ∷ l) e =
-    let h = and-eq-true-iff (eqb b 0) (allZero l) .0 e in
+    let h = and-true (eqb b 0) (allZero l) e in
     rw (eqb-true b 0 (h .0)) (ap (λ (t : List ℕ). 0 ∷ t) (zeros-are l (h .1)))
 
 pub are-zeros : (n : ℕ) → allZero (replicate n 0) ≡ true
@@ -67,7 +67,7 @@ unfolding bitsIn
 stuffed-byte x h =
     same (stuffing (bitsIn 8 x)) (eqb x 128)
     (λ e.
-    let p = and-eq-true-iff (eqb (x / 2 ^ 7 % 2) 1) (allZero (bitsIn 7 x)) .0 e in
+    let p = and-true (eqb (x / 2 ^ 7 % 2) 1) (allZero (bitsIn 7 x)) e in
     let o = eqb-true (x / 2 ^ 7 % 2) 1 (p .0) in
     let z = zeros-are (bitsIn 7 x) (p .1) in
     let b : bitsIn 8 x ≡ 1 ∷ replicate 7 0 = ap (λ (b : ℕ). b ∷ bitsIn 7 x) o ∙ ap (λ (l : List ℕ). 1 ∷ l) z in

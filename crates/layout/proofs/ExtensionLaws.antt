@@ -1,27 +1,28 @@
 -- What an answer is given for: the bodies that obey, by their number and colour bit.
-use Prim.Native.Nat.{ℕ, zero, suc, _+_, _*_, _≤_, _<_}
+use Prim.Native.Nat.{ℕ, zero, suc, _+_, _*_, _<_}
 use mathlib.Core.Path.{_≡_, refl, sym, ap, _∙_, subst}
-use mathlib.Core.Logic.{_≢_}
+use mathlib.Core.Logic.{_≢_, _↔_}
 use mathlib.Core.List.{List, [], _∷_}
-use mathlib.Core.Bool.{Bool, true, false, cond, _&&_, _||_}
+use mathlib.Core.Bool.{Bool, true, false, cond}
 use mathlib.Core.Option.{Option, none, some}
 use native.Mathlib.Omega.{arith}
-use borrow.Author.Tests.{eqb-true, eqb-false, ne-eqb, le-ltb, ltb-false}
-use lib.Dec.{eqb, ltb}
-use lib.ListN.{length, getD, take, drop, replicate, length-drop}
-use Rattle.answers.specs.Answers.{done, refused, SHORT}
+use borrow.Author.Tests.{eqb-false, ne-eqb, le-ltb}
+use lib.Dec.{eqb}
+use lib.ListN.{length, getD, take, drop, replicate}
+use Rattle.answers.specs.Answers.{done, refused}
 use Rattle.bits.specs.Bits.{bitsOf, bitAt, readOn, readAt}
 use Rattle.bits.specs.declared.Bit.{Bit}
 use Rattle.bits.specs.declared.Bit.the-variants as bit
 use Rattle.bits.specs.declared.Read.{Read}
 use Rattle.bits.specs.declared.Read.the-variants as read
 use Rattle.bits.proofs.Lists.{by-test}
-use Rattle.bits.proofs.Laws.{length-bits, read-fits, bit-here, bit-missing}
+use Rattle.bits.proofs.Laws.{read-fits, bit-here}
 use Rattle.layout.specs.Layouts.{widthOf, ruleOf, Allowed, marker, fields, bitCount, leastBytes}
 use Rattle.layout.specs.Records.{headerRecord, plainRecord, colouredRecord, copyrightRecord}
 use Rattle.layout.specs.Obeys.{AllAllowed, Fits, Obeys, HeaderBody, DisplayBody, plain, coloured, CopyrightBody}
+use Rattle.layout.specs.Extensions.{HasNumber}
 use Rattle.layout.specs.Breaks.{Holds}
-use Rattle.layout.specs.Reader.{Result, refuseIf, readValue, recorded, valuesOf, reading, answerOf, recordOf, headerOf, plainOf, colouredOf, copyrightOf, isOne, readBit, displayShort, displayOf, numberOf, isTwo, isDisplay, notCopyright, byNumber, extensionResult, extensionOf}
+use Rattle.layout.specs.Reader.{Result, refuseIf, readValue, recorded, valuesOf, reading, answerOf, recordOf, headerOf, plainOf, colouredOf, copyrightOf, readBit, displayShort, displayOf, numberOf, notCopyright, byNumber, extensionResult, extensionOf}
 use Rattle.answers.specs.Results.{good, bad, _>>=_}
 use Rattle.layout.specs.Answers.{faultNumber, Extension, display, copyright, opaque}
 use Rattle.layout.specs.declared.Field.{Field}
@@ -35,28 +36,30 @@ use Rattle.layout.specs.declared.SequenceHeader.{SequenceHeader}
 use Rattle.layout.specs.declared.DisplayExtension.{DisplayExtension}
 use Rattle.layout.specs.declared.CopyrightExtension.{CopyrightExtension}
 use Rattle.layout.proofs.LayoutLaws.{each-at, fits-length, spelled}
+use Rattle.layout.proofs.NumberLaws.{number-iff, number-one}
 use Rattle.layout.proofs.ObeyLaws.{then-good, value-good, obeys-if, if-obeys}
-use Rattle.answers.proofs.Results.{bind-good, good-same}
-use Rattle.layout.proofs.BreakLaws.{held-read, short-if}
-use Rattle.layout.proofs.AnswerLaws.{short-by, display-short, display-long}
+use Rattle.answers.proofs.Outcomes.{not-done, not-refused, done-one}
+use Rattle.answers.proofs.Results.{not-good, not-bad, good-same, bad-same, bind-good}
+use Rattle.layout.proofs.BreakLaws.{held-read}
+use Rattle.layout.proofs.AnswerLaws.{short-by, display-long}
 
 -- ── answers and results ──
 
 pub answer-done : {A : Type 0} (r : Result A) (a : A) → answerOf r ≡ done a → r ≡ good a
 unfolding answerOf
-answer-done (good b) a e = let s : b ≡ a = cc in ap good s
-answer-done (bad why) a e = let z : _≡_ {A = ℕ} 0 1 = cc in absurd (omega arith)
+answer-done (good b) a e = ap good (done-one e)
+answer-done (bad why) a e = not-done e
 
-pub answer-refused : {A : Type 0} (r : Result A) (n : ℕ) → answerOf r ≡ refused n [] → (why : Fault) × (faultNumber why ≡ n) × (r ≡ bad why)
+pub answer-refused : {A : Type 0} (r : Result A) (n : ℕ) → (answerOf r ≡ refused n []) ↔ ((why : Fault) × (r ≡ bad why) × (n ≡ faultNumber why))
 unfolding answerOf
-answer-refused (good b) n e = let z : _≡_ {A = ℕ} 0 1 = cc in absurd (omega arith)
-answer-refused (bad why) n e = (why, cc, refl)
+answer-refused (good a) n = (not-refused, λ h. not-bad (h .1))
+answer-refused (bad f) n = ((λ e. (f, refl, cc)), λ h. ap answerOf (h .1) ∙ ap (λ (m : ℕ). refused m []) (sym (h .2)))
 
 -- ── records ──
 
 recorded-good : {A : Type 0} (o : Option A) (a : A) → recorded o ≡ good a → o ≡ some a
-recorded-good none a e = let z : _≡_ {A = ℕ} 0 1 = cc in absurd (omega arith)
-recorded-good (some b) a e = let s : b ≡ a = cc in ap some s
+recorded-good none a e = not-good e
+recorded-good (some b) a e = ap some (good-same e)
 
 pub record-if : {A : Type 0} (layout : Layout) (make : List ℕ → Option A) (body : List ℕ) (a : A) → recordOf layout make body ≡ good a →
     (vs : List ℕ) × Obeys layout body vs × (make vs ≡ some a)
@@ -78,9 +81,8 @@ record-bad {A} layout make body why makes e = go (reading layout body) refl e
     go : (r : Result (List ℕ)) → reading layout body ≡ r → (r >>= (λ vs. recorded (make vs))) ≡ bad why → r ≡ bad why
     go (good vs) q x =
         let m = makes vs (obeys-if layout body vs q .fits) in
-        let y : _≡_ {A = Result A} (good (m .0)) (bad why) = sym (ap recorded (m .1)) ∙ x in
-        let z : _≡_ {A = ℕ} 0 1 = cc in absurd (omega arith)
-    go (bad f) q x = let s : f ≡ why = cc in ap bad s
+        not-bad {A = A} (sym (ap recorded (m .1)) ∙ x)
+    go (bad f) q x = ap bad (bad-same {A = A} x)
 
 pub bad-record : {A : Type 0} (layout : Layout) (make : List ℕ → Option A) (body : List ℕ) (why : Fault) → reading layout body ≡ bad why → recordOf layout make body ≡ bad why
 unfolding recordOf
@@ -89,6 +91,14 @@ bad-record layout make body why e = ap (λ (r : Result (List ℕ)). r >>= (λ us
 pub header-made : (vs : List ℕ) → Fits (fields Header) vs → (h : SequenceHeader) × (headerRecord vs ≡ some h)
 unfolding headerRecord fields
 header-made vs f = (_, ap headerRecord (spelled 16 vs (fits-length (fields Header) vs f)))
+
+pub plain-made : (vs : List ℕ) → Fits (fields Display) vs → (d : DisplayExtension) × (plainRecord vs ≡ some d)
+unfolding plainRecord fields
+plain-made vs f = (_, ap plainRecord (spelled 8 vs (fits-length (fields Display) vs f)))
+
+pub coloured-made : (vs : List ℕ) → Fits (fields Coloured) vs → (d : DisplayExtension) × (colouredRecord vs ≡ some d)
+unfolding colouredRecord fields
+coloured-made vs f = (_, ap colouredRecord (spelled 11 vs (fits-length (fields Coloured) vs f)))
 
 -- ── what an obeying body's first bits are ──
 
@@ -136,18 +146,18 @@ bit-value l at v (b ∷ m) d e =
 colour-bit : (body : List ℕ) (v : ℕ) → readAt (bitsOf body) 8 1 ≡ read.Value v → bitAt (bitsOf body) 8 ≡ bit.Is v
 colour-bit body v e = bit-value (bitsOf body) 8 v (drop 8 (bitsOf body)) refl (sym (read-fits (bitsOf body) 8 1 (omega arith)) ∙ e)
 
-number-read : (layout : Layout) (body vs : List ℕ) (n : ℕ) (h : Obeys layout body vs) → 0 < length (fields layout) → widthOf (getD (fields layout) 0 marker) ≡ 4 → getD vs 0 0 ≡ n → numberOf body ≡ read.Value n
-number-read layout body vs n h k w e = ap (readAt (bitsOf body) 0) (sym w) ∙ field-read layout body vs h 0 k ∙ ap read.Value e
+number-read : (layout : Layout) (body vs : List ℕ) (n : ℕ) (h : Obeys layout body vs) → 0 < length (fields layout) → widthOf (getD (fields layout) 0 marker) ≡ 4 → getD vs 0 0 ≡ n → HasNumber body n
+number-read layout body vs n h k w e = number-iff body n .0 (ap (readAt (bitsOf body) 0) (sym w) ∙ field-read layout body vs h 0 k ∙ ap read.Value e)
 
-pub display-number : (body vs : List ℕ) → Obeys Display body vs → numberOf body ≡ read.Value 2
+pub display-number : (body vs : List ℕ) → Obeys Display body vs → HasNumber body 2
 unfolding fields
 display-number body vs h = number-read Display body vs 2 h (omega arith) refl (field-allowed Display body vs h 0 (omega arith))
 
-pub coloured-number : (body vs : List ℕ) → Obeys Coloured body vs → numberOf body ≡ read.Value 2
+pub coloured-number : (body vs : List ℕ) → Obeys Coloured body vs → HasNumber body 2
 unfolding fields
 coloured-number body vs h = number-read Coloured body vs 2 h (omega arith) refl (field-allowed Coloured body vs h 0 (omega arith))
 
-pub copyright-number : (body vs : List ℕ) → Obeys Copyright body vs → numberOf body ≡ read.Value 4
+pub copyright-number : (body vs : List ℕ) → Obeys Copyright body vs → HasNumber body 4
 unfolding fields
 copyright-number body vs h = number-read Copyright body vs 4 h (omega arith) refl (field-allowed Copyright body vs h 0 (omega arith))
 
@@ -167,6 +177,10 @@ coloured-bit body vs h =
 
 wrapped : {A : Type 0} (r : Result A) (wrap : A → Extension) (x : Extension) → (r >>= (λ a. good (wrap a))) ≡ good x → (a : A) × (r ≡ good a) × (x ≡ wrap a)
 wrapped r wrap x e = let b = bind-good r _ x e in (b .0, b .1, sym (good-same (b .2)))
+
+pub wrapped-bad : {A : Type 0} (r : Result A) (wrap : A → Extension) (why : Fault) → (r >>= (λ a. good (wrap a))) ≡ bad why → r ≡ bad why
+wrapped-bad (good a) wrap why e = not-bad e
+wrapped-bad (bad f) wrap why e = ap bad (bad-same {A = Extension} e)
 
 by-cond : {A P : Type 0} (t : Bool) (a b : Result A) (x : A) → cond t a b ≡ good x → (a ≡ good x → P) → (b ≡ good x → P) → P
 by-cond true a b x e f g = f e
@@ -188,7 +202,7 @@ display-if body x e =
     let r = record-if Display plainRecord body (w .0) (w .1) in
     (w .0, w .2, plain (r .0) (r .1) (r .2)))
 
-if-display : (body : List ℕ) (d : DisplayExtension) → DisplayBody body d → (numberOf body ≡ read.Value 2) × (displayOf body ≡ good (display d))
+if-display : (body : List ℕ) (d : DisplayExtension) → DisplayBody body d → HasNumber body 2 × (displayOf body ≡ good (display d))
 unfolding plainOf colouredOf leastBytes
 if-display body d (plain vs h m) = (
   display-number body vs h,
@@ -211,7 +225,7 @@ copyright-if body x e =
     let r = record-if Copyright copyrightRecord body (w .0) (w .1) in
     (w .0, w .2, record { values = r .0; obeys = r .1; recorded = r .2 })
 
-if-copyright : (body : List ℕ) (c : CopyrightExtension) → CopyrightBody body c → (numberOf body ≡ read.Value 4) × (copyrightOf body ≡ good (copyright c))
+if-copyright : (body : List ℕ) (c : CopyrightExtension) → CopyrightBody body c → HasNumber body 4 × (copyrightOf body ≡ good (copyright c))
 unfolding copyrightOf
 if-copyright body c h = (
   copyright-number body (h .values) (h .obeys),
@@ -224,9 +238,9 @@ if-copyright body c h = (
 pub data Answers (place : Place) (body : List ℕ) (x : Extension) : Type 0 where
   as-display : (d : DisplayExtension) → place ≡ Head → x ≡ display d → DisplayBody body d → Answers place body x
   as-copyright : (c : CopyrightExtension) → x ≡ copyright c → CopyrightBody body c → Answers place body x
-  as-opaque : (n : ℕ) → x ≡ opaque n → numberOf body ≡ read.Value n → n ≢ 4 → (place ≡ Head → n ≢ 2) → Answers place body x
+  as-opaque : (n : ℕ) → x ≡ opaque n → HasNumber body n → n ≢ 4 → (place ≡ Head → n ≢ 2) → Answers place body x
 
-by-place : (place : Place) (body : List ℕ) (n : ℕ) (x : Extension) → numberOf body ≡ read.Value n → n ≢ 4 → notCopyright place body n ≡ good x → Answers place body x
+by-place : (place : Place) (body : List ℕ) (n : ℕ) (x : Extension) → HasNumber body n → n ≢ 4 → notCopyright place body n ≡ good x → Answers place body x
 by-place Head body n x r f e =
     by-test (eqb n 2)
     (λ t. let h = display-if body x (sym (ap (λ (b : Bool). cond b (displayOf body) (good (opaque n))) t) ∙ e) in as-display (h .0) refl (h .1) (h .2))
@@ -240,14 +254,14 @@ unfolding extensionResult byNumber
 extension-if place body x e =
     let b = bind-good (readValue (numberOf body)) _ x e in
     let n = b .0 in
-    let r = value-good (numberOf body) n (b .1) in
+    let r = number-iff body n .0 (value-good (numberOf body) n (b .1)) in
     by-test (eqb n 4)
     (λ t. let h = copyright-if body x (sym (ap (λ (b : Bool). cond b (copyrightOf body) (notCopyright place body n)) t) ∙ b .2) in as-copyright (h .0) (h .1) (h .2))
     (λ f. by-place place body n x r (eqb-false n 4 f) (sym (ap (λ (b : Bool). cond b (copyrightOf body) (notCopyright place body n)) f) ∙ b .2))
 
-by-number : (place : Place) (body : List ℕ) (n : ℕ) → numberOf body ≡ read.Value n → extensionResult place body ≡ byNumber place body n
+by-number : (place : Place) (body : List ℕ) (n : ℕ) → HasNumber body n → extensionResult place body ≡ byNumber place body n
 unfolding extensionResult
-by-number place body n e = ap (λ (x : Read). readValue x >>= byNumber place body) e
+by-number place body n h = ap (λ (x : Read). readValue x >>= byNumber place body) (number-iff body n .1 h)
 
 pub if-as-display : (body : List ℕ) (d : DisplayExtension) → DisplayBody body d → extensionResult Head body ≡ good (display d)
 unfolding byNumber
@@ -261,101 +275,40 @@ other-number : (place : Place) (body : List ℕ) (n : ℕ) → (place ≡ Head �
 other-number Head body n f = ap (λ (b : Bool). cond b (displayOf body) (good (opaque n))) (ne-eqb n 2 (f refl))
 other-number Picture body n f = refl
 
-pub if-as-opaque : (place : Place) (body : List ℕ) (n : ℕ) → numberOf body ≡ read.Value n → n ≢ 4 → (place ≡ Head → n ≢ 2) → extensionResult place body ≡ good (opaque n)
+pub if-as-opaque : (place : Place) (body : List ℕ) (n : ℕ) → HasNumber body n → n ≢ 4 → (place ≡ Head → n ≢ 2) → extensionResult place body ≡ good (opaque n)
 unfolding byNumber
 if-as-opaque place body n e f g =
     by-number place body n e
     ∙ ap (λ (b : Bool). cond b (copyrightOf body) (notCopyright place body n)) (ne-eqb n 4 f)
     ∙ other-number place body n g
 
--- ── SHORT of a display extension ──
-
-number-two : (x : Read) → isTwo x ≡ true → x ≡ read.Value 2
-number-two (read.Value n) e = ap read.Value (eqb-true n 2 e)
-number-two read.Missing e = let z : _≡_ {A = ℕ} 0 1 = cc in absurd (omega arith)
-number-two read.TooWide e = let z : _≡_ {A = ℕ} 0 1 = cc in absurd (omega arith)
-
-pub display-result : (body : List ℕ) → isDisplay body ≡ true → extensionResult Head body ≡ displayOf body
-unfolding isDisplay byNumber
-display-result body e = by-number Head body 2 (number-two (numberOf body) e)
-
-pub wrapped-bad : {A : Type 0} (r : Result A) (wrap : A → Extension) (why : Fault) → (r >>= (λ a. good (wrap a))) ≡ bad why → r ≡ bad why
-wrapped-bad (good a) wrap why e = let z : _≡_ {A = ℕ} 0 1 = cc in absurd (omega arith)
-wrapped-bad (bad f) wrap why e = let s : f ≡ why = cc in ap bad s
-
-pub plain-made : (vs : List ℕ) → Fits (fields Display) vs → (d : DisplayExtension) × (plainRecord vs ≡ some d)
-unfolding plainRecord fields
-plain-made vs f = (_, ap plainRecord (spelled 8 vs (fits-length (fields Display) vs f)))
-
-pub coloured-made : (vs : List ℕ) → Fits (fields Coloured) vs → (d : DisplayExtension) × (colouredRecord vs ≡ some d)
-unfolding colouredRecord fields
-coloured-made vs f = (_, ap colouredRecord (spelled 11 vs (fits-length (fields Coloured) vs f)))
-
-plain-short : (body : List ℕ) → plainOf body ≡ bad fault.Short → length body < 6
-unfolding plainOf leastBytes
-plain-short body e = short-if Display body (record-bad Display plainRecord body fault.Short plain-made (wrapped-bad _ display fault.Short e))
-
-coloured-short : (body : List ℕ) → colouredOf body ≡ bad fault.Short → length body < 9
-unfolding colouredOf leastBytes
-coloured-short body e = short-if Coloured body (record-bad Coloured colouredRecord body fault.Short coloured-made (wrapped-bad _ display fault.Short e))
-
--- the colour bit of a body that is not short is there, and its layout's length test passes
-long-not-short : (body : List ℕ) (b : Bit) → bitAt (bitsOf body) 8 ≡ b → 6 ≤ length body → isOne b && ltb (length body) 9 ≡ false →
-    (readBit b >>= (λ colour. cond (eqb colour 1) (colouredOf body) (plainOf body))) ≡ bad fault.Short → ⊥
-long-not-short body bit.Missing e h s r =
-    let d = bit-missing (bitsOf body) 8 e in
-    let l = sym (length-drop 8 (bitsOf body)) ∙ ap length d in
-    omega (arith, length-bits body)
-long-not-short body (bit.Is b) e h s r =
-    by-test (eqb b 1)
-    (λ t.
-    let k = coloured-short body (sym (ap (λ (x : Bool). cond x (colouredOf body) (plainOf body)) t) ∙ r) in
-    let m = ltb-false (length body) 9 (sym (ap (λ (x : Bool). x && ltb (length body) 9) t) ∙ s) in
-    omega arith)
-    (λ f. let k = plain-short body (sym (ap (λ (x : Bool). cond x (colouredOf body) (plainOf body)) f) ∙ r) in omega arith)
-
-not-under-six : (body : List ℕ) → displayShort body ≡ false → 6 ≤ length body
-unfolding displayShort leastBytes
-not-under-six body e =
-    by-test (ltb (length body) 6)
-    (λ t. let z : _≡_ {A = Bool} true false = sym (ap (λ (x : Bool). x || (isOne (bitAt (bitsOf body) 8) && ltb (length body) 9)) t) ∙ e in let o : _≡_ {A = ℕ} 0 1 = cc in absurd (omega arith))
-    (λ f. ltb-false (length body) 6 f)
-
-pub display-short-if : (body : List ℕ) → displayOf body ≡ bad fault.Short → displayShort body ≡ true
-display-short-if body e =
-    by-test (displayShort body)
-    (λ t. t)
-    (λ f.
-    let six = not-under-six body f in
-    absurd
-    (long-not-short body (bitAt (bitsOf body) 8) refl six (sym (short-by body (bitAt (bitsOf body) 8) six refl) ∙ f)
-    (sym (display-long body (bitAt (bitsOf body) 8) f refl) ∙ e)))
+-- in a head, number 2 is a display extension
+pub display-result : (body : List ℕ) → HasNumber body 2 → extensionResult Head body ≡ displayOf body
+unfolding byNumber
+display-result body h = by-number Head body 2 h
 
 -- ── the fields that a body is told apart by are as its layout asks ──
-
-same-value : (m n : ℕ) (x : Read) → x ≡ read.Value m → x ≡ read.Value n → m ≡ n
-same-value m n x e f = cc
 
 same-bit : (m n : ℕ) (x : Bit) → x ≡ bit.Is m → x ≡ bit.Is n → m ≡ n
 same-bit m n x e f = cc
 
-pub display-fixed : (body vs end : List ℕ) → Holds Display body vs end → numberOf body ≡ read.Value 2 → bitAt (bitsOf body) 8 ≡ bit.Is 0 → (getD vs 0 0 ≡ 2) × (getD vs 3 0 ≡ 0)
+pub display-fixed : (body vs end : List ℕ) → Holds Display body vs end → HasNumber body 2 → bitAt (bitsOf body) 8 ≡ bit.Is 0 → (getD vs 0 0 ≡ 2) × (getD vs 3 0 ≡ 0)
 unfolding fields
 display-fixed body vs end h n c = (
-  same-value (getD vs 0 0) 2 (numberOf body) (held-field Display body vs end h 0 (omega arith)) n,
+  number-one body (getD vs 0 0) 2 (number-iff body _ .0 (held-field Display body vs end h 0 (omega arith))) n,
   same-bit (getD vs 3 0) 0 (bitAt (bitsOf body) 8) (colour-bit body (getD vs 3 0) (held-field Display body vs end h 3 (omega arith))) c,
 )
 
-pub coloured-fixed : (body vs end : List ℕ) → Holds Coloured body vs end → numberOf body ≡ read.Value 2 → bitAt (bitsOf body) 8 ≡ bit.Is 1 → (getD vs 0 0 ≡ 2) × (getD vs 3 0 ≡ 1)
+pub coloured-fixed : (body vs end : List ℕ) → Holds Coloured body vs end → HasNumber body 2 → bitAt (bitsOf body) 8 ≡ bit.Is 1 → (getD vs 0 0 ≡ 2) × (getD vs 3 0 ≡ 1)
 unfolding fields
 coloured-fixed body vs end h n c = (
-  same-value (getD vs 0 0) 2 (numberOf body) (held-field Coloured body vs end h 0 (omega arith)) n,
+  number-one body (getD vs 0 0) 2 (number-iff body _ .0 (held-field Coloured body vs end h 0 (omega arith))) n,
   same-bit (getD vs 3 0) 1 (bitAt (bitsOf body) 8) (colour-bit body (getD vs 3 0) (held-field Coloured body vs end h 3 (omega arith))) c,
 )
 
-pub copyright-fixed : (body vs end : List ℕ) → Holds Copyright body vs end → numberOf body ≡ read.Value 4 → getD vs 0 0 ≡ 4
+pub copyright-fixed : (body vs end : List ℕ) → Holds Copyright body vs end → HasNumber body 4 → getD vs 0 0 ≡ 4
 unfolding fields
-copyright-fixed body vs end h n = same-value (getD vs 0 0) 4 (numberOf body) (held-field Copyright body vs end h 0 (omega arith)) n
+copyright-fixed body vs end h n = number-one body (getD vs 0 0) 4 (number-iff body _ .0 (held-field Copyright body vs end h 0 (omega arith))) n
 
 -- ── what is answered ──
 
@@ -381,7 +334,7 @@ copyright-reason place body c (as-copyright e x h) = let s : e ≡ c = cc in sub
 copyright-reason place body c (as-opaque n x r f g) = let z : _≡_ {A = ℕ} 0 1 = cc in absurd (omega arith)
 
 abbrev Alone : Place → List ℕ → ℕ → Type 0
-Alone place body n = (numberOf body ≡ read.Value n) × (n ≢ 4) × (place ≡ Head → n ≢ 2)
+Alone place body n = HasNumber body n × (n ≢ 4) × (place ≡ Head → n ≢ 2)
 
 opaque-reason : (place : Place) (body : List ℕ) (n : ℕ) → Answers place body (opaque n) → Alone place body n
 opaque-reason place body n (as-display d p x h) = let z : _≡_ {A = ℕ} 0 1 = cc in absurd (omega arith)
@@ -408,26 +361,8 @@ answers-copyright place body c e = copyright-reason place body c (answers-by pla
 pub copyright-answers : (place : Place) (body : List ℕ) (c : CopyrightExtension) → CopyrightBody body c → extensionOf place body ≡ done (copyright c)
 copyright-answers place body c h = by-answers place body (copyright c) (if-as-copyright place body c h)
 
-pub answers-opaque : (place : Place) (body : List ℕ) (n : ℕ) → extensionOf place body ≡ done (opaque n) → (numberOf body ≡ read.Value n) × (n ≢ 4) × (place ≡ Head → n ≢ 2)
+pub answers-opaque : (place : Place) (body : List ℕ) (n : ℕ) → extensionOf place body ≡ done (opaque n) → Alone place body n
 answers-opaque place body n e = opaque-reason place body n (answers-by place body (opaque n) e)
 
-pub opaque-answers : (place : Place) (body : List ℕ) (n : ℕ) → (numberOf body ≡ read.Value n) × (n ≢ 4) × (place ≡ Head → n ≢ 2) → extensionOf place body ≡ done (opaque n)
+pub opaque-answers : (place : Place) (body : List ℕ) (n : ℕ) → Alone place body n → extensionOf place body ≡ done (opaque n)
 opaque-answers place body n h = by-answers place body (opaque n) (if-as-opaque place body n (h .0) (h .1) (h .2))
-
--- the number of SHORT is that of no other fault
-short-number : (why : Fault) → faultNumber why ≡ SHORT → why ≡ fault.Short
-unfolding faultNumber
-short-number fault.Short e = refl
-short-number (fault.Marker at) e = absurd (omega arith)
-short-number (fault.Value name at) e = absurd (omega arith)
-short-number fault.Stuffing e = absurd (omega arith)
-
-pub answers-short : (body : List ℕ) → isDisplay body ≡ true → extensionOf Head body ≡ refused SHORT [] → displayShort body ≡ true
-unfolding extensionOf
-answers-short body t e =
-    let r = answer-refused (extensionResult Head body) SHORT e in
-    display-short-if body (sym (display-result body t) ∙ r .2 ∙ ap bad (short-number (r .0) (r .1)))
-
-pub short-answers : (body : List ℕ) → isDisplay body ≡ true → displayShort body ≡ true → extensionOf Head body ≡ refused SHORT []
-unfolding extensionOf answerOf faultNumber
-short-answers body t s = ap answerOf (display-result body t ∙ display-short body s)

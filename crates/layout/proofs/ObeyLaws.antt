@@ -3,26 +3,26 @@ use Prim.Native.Nat.{ℕ, _+_, _*_, _^_, _≤_, _<_}
 use mathlib.Core.Path.{_≡_, refl, sym, ap, _∙_, subst}
 use mathlib.Core.Logic.{_↔_}
 use mathlib.Core.List.{List, [], _∷_, _++_}
-use mathlib.Core.Bool.{Bool, true, false, cond, _&&_, not, and-eq-true-iff}
+use mathlib.Core.Bool.{Bool, true, false, cond, _&&_, not}
 use mathlib.Core.Option.{Option, none, some}
 use native.Mathlib.Omega.{arith}
 use borrow.Author.Tests.{eqb-true, eqb-false, eq-eqb, ne-eqb, leb-true, le-leb, ltb-false, not-true, not-false}
 use lib.Dec.{eqb, leb}
 use lib.ListN.{length, take, drop, replicate, length-append, take-append-drop}
 use lib.Seq.{take-all, take-at, drop-at, take-add, take-take, drop-drop}
-use Rattle.answers.proofs.Results.{bind-good, good-same}
+use Rattle.answers.proofs.Results.{not-good, good-same, bind-good}
 use Rattle.bits.specs.Lists.{All}
 use Rattle.bits.specs.Bits.{bitsIn, bitsOf, payload, readAt}
 use Rattle.bits.specs.declared.Read.{Read}
 use Rattle.bits.specs.declared.Read.the-variants as read
-use Rattle.bits.proofs.Lists.{by-test}
+use Rattle.bits.proofs.Lists.{by-test, and-true}
 use Rattle.bits.proofs.Laws.{length-in, length-bits}
 use Rattle.bits.proofs.Main.{read-exactly}
 use Rattle.layout.specs.Layouts.{widthOf, ruleOf, Allowed, faultAt, fields, bitCount}
 use Rattle.layout.specs.Records.{copyrightRecord}
 use Rattle.layout.specs.Obeys.{Fits, AllAllowed, Owned, Crossed, written, Obeys}
 use Rattle.layout.specs.Reader.{allows, Result, _>>_, refuseIf, both, readValue, short, valuesOf, judge, ownerRules, crossRecord, cross, judged, allZero, stuffing, ended, reading}
-use Rattle.answers.specs.Results.{good, bad, _>>=_}
+use Rattle.answers.specs.Results.{good, _>>=_}
 use Rattle.layout.specs.declared.Values.{Values}
 use Rattle.layout.specs.declared.Values.the-variants as rule
 use Rattle.layout.specs.declared.Name.the-variants.{Owner}
@@ -43,10 +43,10 @@ use Rattle.layout.proofs.JudgeLaws.{reading-long}
 
 pub then-good : {A : Type 0} (v : Verdict) (r : Result A) (a : A) → (v >> r) ≡ good a → (v ≡ Fine) × (r ≡ good a)
 then-good Fine r a e = (refl, e)
-then-good (Faulty why) r a e = let z : _≡_ {A = ℕ} 0 1 = cc in absurd (omega arith)
+then-good (Faulty why) r a e = not-good e
 
-good-then : {A : Type 0} (v : Verdict) (r : Result A) → v ≡ Fine → (v >> r) ≡ r
-good-then v r e = rw e
+pub fine-then : {A : Type 0} (v : Verdict) (r : Result A) → v ≡ Fine → (v >> r) ≡ r
+fine-then v r e = rw e
 
 pub both-fine : (v w : Verdict) → both v w ≡ Fine → (v ≡ Fine) × (w ≡ Fine)
 both-fine Fine w e = (refl, e)
@@ -63,9 +63,9 @@ fine-if : (t : Bool) (why : Fault) → t ≡ false → refuseIf t why ≡ Fine
 fine-if t why e = rw e
 
 pub value-good : (x : Read) (v : ℕ) → readValue x ≡ good v → x ≡ read.Value v
-value-good (read.Value n) v e = let s : n ≡ v = good-same e in ap read.Value s
-value-good read.Missing v e = let z : _≡_ {A = ℕ} 0 1 = cc in absurd (omega arith)
-value-good read.TooWide v e = let z : _≡_ {A = ℕ} 0 1 = cc in absurd (omega arith)
+value-good (read.Value n) v e = ap read.Value (good-same e)
+value-good read.Missing v e = not-good e
+value-good read.TooWide v e = not-good e
 
 -- ── values are read exactly where their bits stand ──
 
@@ -127,11 +127,11 @@ allowed-if rule.Set v e = eqb-true v 1 e
 allowed-if (rule.Only one) v e = eqb-true v one e
 allowed-if (rule.But one) v e = eqb-false v one (not-true _ e)
 allowed-if (rule.Within least greatest) v e =
-    let h = and-eq-true-iff (leb least v) (leb v greatest) .0 e in
+    let h = and-true (leb least v) (leb v greatest) e in
     (leb-true _ _ (h .0), leb-true _ _ (h .1))
 allowed-if (rule.WithinBut least greatest one) v e =
-    let g = and-eq-true-iff (leb least v && leb v greatest) (not (eqb v one)) .0 e in
-    let h = and-eq-true-iff (leb least v) (leb v greatest) .0 (g .0) in
+    let g = and-true (leb least v && leb v greatest) (not (eqb v one)) e in
+    let h = and-true (leb least v) (leb v greatest) (g .0) in
     (leb-true _ _ (h .0), leb-true _ _ (h .1), eqb-false v one (not-true _ (g .1)))
 
 pub if-allowed : (r : Values) (v : ℕ) → Allowed r v → allows r v ≡ true
@@ -204,7 +204,7 @@ fine-cross Copyright vs h = ap crossRecord (h .1) ∙ if-owned (h .0) (h .2)
 pub stuffing-is : (l : List ℕ) → stuffing l ≡ true → (n : ℕ) × (l ≡ 1 ∷ replicate n 0)
 stuffing-is [] e = let z : _≡_ {A = ℕ} 0 1 = cc in absurd (omega arith)
 stuffing-is (b ∷ l) e =
-    let h = and-eq-true-iff (eqb b 1) (allZero l) .0 e in
+    let h = and-true (eqb b 1) (allZero l) e in
     (length l, ap (λ (x : ℕ). x ∷ l) (eqb-true b 1 (h .0)) ∙ ap (λ (t : List ℕ). 1 ∷ t) (zeros-are l (h .1)))
 
 pub is-stuffing : (l : List ℕ) (n : ℕ) → l ≡ 1 ∷ replicate n 0 → stuffing l ≡ true
@@ -245,5 +245,5 @@ if-obeys layout body vs h =
     let fine = fine-both _ _ (fine-judge fs 0 vs (h .allowed)) (fine-cross layout vs (h .crossed)) in
     reading-long layout body (h .long)
     ∙ ap (λ (r : Result (List ℕ)). r >>= (λ us. judged layout us >> (ended layout body >> good us))) values
-    ∙ good-then (judged layout vs) _ fine
-    ∙ good-then (ended layout body) (good vs) (fine-if _ _ (ap not (is-stuffing _ (h .zeros) end)))
+    ∙ fine-then (judged layout vs) _ fine
+    ∙ fine-then (ended layout body) (good vs) (fine-if _ _ (ap not (is-stuffing _ (h .zeros) end)))

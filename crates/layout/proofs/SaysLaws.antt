@@ -1,17 +1,56 @@
--- The answers of one type have different numbers and values: each can be told from what it says.
+-- Readings and answers are one-to-one: each can be told from what it gives or says.
 use Prim.Native.Nat.{ℕ}
-use mathlib.Core.Path.{_≡_, refl, sym, ap, _∙_}
+use mathlib.Core.Path.{_≡_, refl, ap}
 use mathlib.Core.Bool.{cond}
 use lib.Dec.{eqb}
-use Rattle.answers.specs.Answers.{Outcome, done, refused, SHORT, MARKER, VALUE}
-use Rattle.layout.specs.Answers.{reasonNumber, headerSays, Extension, display, copyright, opaque, extensionSays}
+use Rattle.answers.specs.Answers.{Outcome, done, refused, OneToOne, SHORT, MARKER, VALUE}
+use Rattle.answers.specs.Results.{Result, good, bad}
+use Rattle.answers.proofs.Outcomes.{undone}
+use Rattle.layout.specs.Answers.{reasonNumber, headerGives, headerSays, Extension, display, copyright, opaque, extensionGives, extensionSays}
+use Rattle.layout.specs.declared.Fault.{Fault}
 use Rattle.layout.specs.declared.Reason.{Reason}
 use Rattle.layout.specs.declared.Reason.the-variants.{Short, Marker, Value, Stuffing}
 use Rattle.layout.specs.declared.SequenceHeader.{SequenceHeader}
+use Rattle.layout.specs.declared.HeaderReading.{HeaderReading}
+use Rattle.layout.specs.declared.HeaderReading.the-variants as headerReading
 use Rattle.layout.specs.declared.HeaderAnswer.{HeaderAnswer}
 use Rattle.layout.specs.declared.HeaderAnswer.the-variants as header
+use Rattle.layout.specs.declared.ExtensionReading.{ExtensionReading}
+use Rattle.layout.specs.declared.ExtensionReading.the-variants as extensionReading
 use Rattle.layout.specs.declared.ExtensionAnswer.{ExtensionAnswer}
 use Rattle.layout.specs.declared.ExtensionAnswer.the-variants as extension
+
+-- ── readings ──
+
+abbrev headerRead : Result Fault SequenceHeader → HeaderReading
+headerRead (good h) = headerReading.Header h
+headerRead (bad fault) = headerReading.Faulty fault
+
+header-read : (r : HeaderReading) → headerRead (headerGives r) ≡ r
+unfolding headerGives
+header-read (headerReading.Header h) = refl
+header-read (headerReading.Faulty fault) = refl
+
+pub header-gives : OneToOne headerGives
+header-gives = undone headerGives headerRead header-read
+
+abbrev extensionRead : Result Fault Extension → ExtensionReading
+extensionRead (good (display d)) = extensionReading.Display d
+extensionRead (good (copyright c)) = extensionReading.Copyright c
+extensionRead (good (opaque n)) = extensionReading.Opaque n
+extensionRead (bad fault) = extensionReading.Faulty fault
+
+extension-read : (r : ExtensionReading) → extensionRead (extensionGives r) ≡ r
+unfolding extensionGives
+extension-read (extensionReading.Display d) = refl
+extension-read (extensionReading.Copyright c) = refl
+extension-read (extensionReading.Opaque n) = refl
+extension-read (extensionReading.Faulty fault) = refl
+
+pub extension-gives : OneToOne extensionGives
+extension-gives = undone extensionGives extensionRead extension-read
+
+-- ── answers ──
 
 -- a reason from its number
 abbrev reasonOf : ℕ → Reason
@@ -34,8 +73,8 @@ unfolding headerSays
 header-from (header.Header h) = refl
 header-from (header.Refused why) = ap header.Refused (reason-of why)
 
-pub header-once : (a b : HeaderAnswer) → headerSays a ≡ headerSays b → a ≡ b
-header-once a b e = sym (header-from a) ∙ ap headerFrom e ∙ header-from b
+pub header-says : OneToOne headerSays
+header-says = undone headerSays headerFrom header-from
 
 abbrev extensionFrom : Outcome Extension → ExtensionAnswer
 extensionFrom (done (display d)) = extension.Display d
@@ -50,5 +89,5 @@ extension-from (extension.Copyright c) = refl
 extension-from (extension.Opaque n) = refl
 extension-from (extension.Refused why) = ap extension.Refused (reason-of why)
 
-pub extension-once : (a b : ExtensionAnswer) → extensionSays a ≡ extensionSays b → a ≡ b
-extension-once a b e = sym (extension-from a) ∙ ap extensionFrom e ∙ extension-from b
+pub extension-says : OneToOne extensionSays
+extension-says = undone extensionSays extensionFrom extension-from

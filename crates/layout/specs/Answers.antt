@@ -2,6 +2,7 @@
 use Prim.Native.Nat.{ℕ}
 use mathlib.Core.List.{[]}
 use Rattle.answers.specs.Answers.{Outcome, done, refused, SHORT, MARKER, VALUE, STUFFING}
+use Rattle.answers.specs.Results.{Result, good, bad}
 use Rattle.layout.specs.declared.Fault.{Fault}
 use Rattle.layout.specs.declared.Fault.the-variants as fault
 use Rattle.layout.specs.declared.Reason.{Reason}
@@ -9,8 +10,12 @@ use Rattle.layout.specs.declared.Reason.the-variants as reason
 use Rattle.layout.specs.declared.SequenceHeader.{SequenceHeader}
 use Rattle.layout.specs.declared.DisplayExtension.{DisplayExtension}
 use Rattle.layout.specs.declared.CopyrightExtension.{CopyrightExtension}
+use Rattle.layout.specs.declared.HeaderReading.{HeaderReading}
+use Rattle.layout.specs.declared.HeaderReading.the-variants as headerReading
 use Rattle.layout.specs.declared.HeaderAnswer.{HeaderAnswer}
 use Rattle.layout.specs.declared.HeaderAnswer.the-variants as headerAnswer
+use Rattle.layout.specs.declared.ExtensionReading.{ExtensionReading}
+use Rattle.layout.specs.declared.ExtensionReading.the-variants as extensionReading
 use Rattle.layout.specs.declared.ExtensionAnswer.{ExtensionAnswer}
 use Rattle.layout.specs.declared.ExtensionAnswer.the-variants as extensionAnswer
 
@@ -32,6 +37,11 @@ reasonNumber reason.Stuffing = STUFFING
 
 -- ── sequence header ──
 
+-- what a reading gives: the record, or what is wrong with the body
+unfoldable pub headerGives : HeaderReading → Result Fault SequenceHeader
+headerGives (headerReading.Header h) = good h
+headerGives (headerReading.Faulty fault) = bad fault
+
 -- what an answer says: its record, or its refusal
 unfoldable pub headerSays : HeaderAnswer → Outcome SequenceHeader
 headerSays (headerAnswer.Header h) = done h
@@ -44,6 +54,13 @@ pub data Extension : Type 0 where
   display : DisplayExtension → Extension
   copyright : CopyrightExtension → Extension
   opaque : ℕ → Extension
+
+-- what a reading gives: the record or the number, or what is wrong with the body
+unfoldable pub extensionGives : ExtensionReading → Result Fault Extension
+extensionGives (extensionReading.Display d) = good (display d)
+extensionGives (extensionReading.Copyright c) = good (copyright c)
+extensionGives (extensionReading.Opaque number) = good (opaque number)
+extensionGives (extensionReading.Faulty fault) = bad fault
 
 -- what an answer says: its record or its number, or its refusal
 unfoldable pub extensionSays : ExtensionAnswer → Outcome Extension

@@ -8,12 +8,10 @@ use mathlib.Core.Option.{some}
 use lib.ListN.{length, replicate}
 use Rattle.bits.specs.Bits.{bitsOf, bitAt}
 use Rattle.bits.specs.declared.Bit.the-variants.{Is}
-use Rattle.bits.specs.declared.Read.the-variants as read
 use Rattle.layout.specs.Layouts.{ruleOf, Allowed, faultAt, fields, bitCount, leastBytes}
 use Rattle.layout.specs.Records.{copyrightRecord}
 use Rattle.layout.specs.Obeys.{Fits, AllAllowed, Crossed, written}
-use Rattle.layout.specs.Answers.{faultNumber}
-use Rattle.layout.specs.Reader.{numberOf}
+use Rattle.layout.specs.Extensions.{HasNumber}
 use Rattle.layout.specs.declared.Name.the-variants.{Owner, CopyrightNumber}
 use Rattle.layout.specs.declared.Field.{Field}
 use Rattle.layout.specs.declared.Layout.{Layout}
@@ -64,10 +62,6 @@ pub data Breaks (layout : Layout) (body : List ℕ) (why : Fault) : Type 0 where
   ended : (vs end : List ℕ) → Holds layout body vs end → AllAllowed (fields layout) vs → Crossed layout vs →
       ((zeros : ℕ) → end ≢ 1 ∷ replicate zeros 0) → why ≡ fault.Stuffing → Breaks layout body why
 
--- what is broken has this number
-abbrev pub Numbered : (Fault → Type 0) → ℕ → Type 0
-Numbered Broken n = (why : Fault) × Broken why × (n ≡ faultNumber why)
-
 -- ── extensions ──
 
 -- "colour given": bit 8 of a display extension
@@ -88,5 +82,5 @@ pub data BreaksDisplay (body : List ℕ) (why : Fault) : Type 0 where
 -- display extension"; "any other extension is opaque", and breaks nothing.
 pub data BreaksExtension (place : Place) (body : List ℕ) (why : Fault) : Type 0 where
   empty : body ≡ [] → why ≡ fault.Short → BreaksExtension place body why
-  copyright : numberOf body ≡ read.Value 4 → Breaks Copyright body why → BreaksExtension place body why
-  display : numberOf body ≡ read.Value 2 → place ≡ Head → BreaksDisplay body why → BreaksExtension place body why
+  copyright : HasNumber body 4 → Breaks Copyright body why → BreaksExtension place body why
+  display : HasNumber body 2 → place ≡ Head → BreaksDisplay body why → BreaksExtension place body why

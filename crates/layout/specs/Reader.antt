@@ -203,16 +203,6 @@ displayOf body = do
 abbrev pub numberOf : List ℕ → Read
 numberOf body = readAt (bitsOf body) 0 4
 
--- a number that is there and is 2
-abbrev pub isTwo : Read → Bool
-isTwo (read.Value number) = eqb number 2
-isTwo read.Missing = false
-isTwo read.TooWide = false
-
--- number 2: in a group's head, a display extension
-unfoldable pub isDisplay : List ℕ → Bool
-isDisplay body = isTwo (numberOf body)
-
 -- Number 2 in a group's head is the display extension; after a picture header it is opaque.
 abbrev pub notCopyright : Place → List ℕ → ℕ → Result Extension
 notCopyright place.Head body number = cond (eqb number 2) (displayOf body) (good (opaque number))

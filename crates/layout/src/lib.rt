@@ -11,10 +11,11 @@ ghost use lib.Dec.{leb};
 ghost use Rattle.bits.specs.Bits.{bitsOf};
 ghost use Rattle.layout.specs.Layouts.{headerFields, displayFields, colouredFields, copyrightFields, fields, leastBytes, faultAt};
 ghost use Rattle.layout.specs.Obeys.{Fits};
-ghost use Rattle.layout.specs.Reader.{allows, valuesOf, judge, stuffing, judged, ownerRules, both, ended, reading, headerOf, isDisplay, displayShort, extensionOf, answerOf, plainOf, colouredOf, displayOf, copyrightOf, byNumber};
+ghost use Rattle.layout.specs.Extensions.{numbered, isOpaque};
+ghost use Rattle.layout.specs.Reader.{allows, valuesOf, judge, stuffing, judged, ownerRules, both, ended, reading, headerResult, headerOf, plainOf, colouredOf, copyrightOf, displayShort, displayOf, byNumber, extensionResult, extensionOf};
 ghost use Rattle.layout.specs.Inside.{bodySays};
 ghost use Rattle.layout.specs.Records.{headerRecord, plainRecord, colouredRecord, copyrightRecord};
-ghost use Rattle.layout.specs.Answers.{reasonNumber, faultNumber, headerSays, extensionSays};
+ghost use Rattle.layout.specs.Answers.{reasonNumber, faultNumber, headerGives, headerSays, extensionGives, extensionSays};
 
 // The fields of the layouts. CopyrightNumber is the three parts together.
 pub enum Name {
@@ -173,6 +174,13 @@ pub struct SequenceHeader {
     pub buffer: u32,
 }
 
+// A sequence header that was read: its record, or what is wrong with its body.
+pub enum HeaderReading {
+    Header(SequenceHeader),
+    Faulty(Fault),
+}
+
+// The same, without the field and its bit.
 pub enum HeaderAnswer {
     Header(SequenceHeader),
     Refused(Reason),
@@ -206,7 +214,15 @@ pub enum Place {
     Picture,
 }
 
-// An opaque extension answers its number alone.
+// An extension that was read: its record, or of an opaque one its number alone, or what is wrong with its body.
+pub enum ExtensionReading {
+    Display(DisplayExtension),
+    Copyright(CopyrightExtension),
+    Opaque(u32),
+    Faulty(Fault),
+}
+
+// The same, without the field and its bit.
 pub enum ExtensionAnswer {
     Display(DisplayExtension),
     Copyright(CopyrightExtension),
@@ -561,65 +577,89 @@ fn reason_of(fault: Fault) -> Reason
     }
 }
 
-// A sequence header's body: its record, or its refusal.
-pub fn sequence_header(body: &[u8]) -> HeaderAnswer
-    ensures { λ r. ⌜ headerSays r ≡ headerOf (now (body .entry)) ⌝ }
+// A sequence header's body: its record, or what is wrong with it.
+pub fn read_header(body: &[u8]) -> HeaderReading
+    ensures { λ r. ⌜ headerGives r ≡ headerResult (now (body .entry)) ⌝ }
 {
     let read = read_body(Layout::Header, body);
     let verdict = read.verdict;
     let values = read.values;
     match verdict {
-        Verdict::Faulty(fault) => HeaderAnswer::Refused(reason_of(fault)),
-        Verdict::Fine => HeaderAnswer::Header(header_record(&values[..16])),
+        Verdict::Faulty(fault) => HeaderReading::Faulty(fault),
+        Verdict::Fine => HeaderReading::Header(header_record(&values[..16])),
+    }
+}
+
+// A sequence header's body: its record, or its refusal.
+pub fn sequence_header(body: &[u8]) -> HeaderAnswer
+    ensures { λ r. ⌜ headerSays r ≡ headerOf (now (body .entry)) ⌝ }
+{
+    match read_header(body) {
+        HeaderReading::Header(header) => HeaderAnswer::Header(header),
+        HeaderReading::Faulty(fault) => HeaderAnswer::Refused(reason_of(fault)),
     }
 }
 
 // A display extension's body, without colour and with it.
-fn plain(body: &[u8]) -> ExtensionAnswer
-    ensures { λ r. ⌜ extensionSays r ≡ answerOf (plainOf (now (body .entry))) ⌝ }
+fn plain(body: &[u8]) -> ExtensionReading
+    ensures { λ r. ⌜ extensionGives r ≡ plainOf (now (body .entry)) ⌝ }
 {
     let read = read_body(Layout::Display, body);
     let verdict = read.verdict;
     let values = read.values;
     match verdict {
-        Verdict::Faulty(fault) => ExtensionAnswer::Refused(reason_of(fault)),
-        Verdict::Fine => ExtensionAnswer::Display(plain_record(&values[..8])),
+        Verdict::Faulty(fault) => ExtensionReading::Faulty(fault),
+        Verdict::Fine => ExtensionReading::Display(plain_record(&values[..8])),
     }
 }
 
-fn coloured(body: &[u8]) -> ExtensionAnswer
-    ensures { λ r. ⌜ extensionSays r ≡ answerOf (colouredOf (now (body .entry))) ⌝ }
+fn coloured(body: &[u8]) -> ExtensionReading
+    ensures { λ r. ⌜ extensionGives r ≡ colouredOf (now (body .entry)) ⌝ }
 {
     let read = read_body(Layout::Coloured, body);
     let verdict = read.verdict;
     let values = read.values;
     match verdict {
-        Verdict::Faulty(fault) => ExtensionAnswer::Refused(reason_of(fault)),
-        Verdict::Fine => ExtensionAnswer::Display(coloured_record(&values[..11])),
+        Verdict::Faulty(fault) => ExtensionReading::Faulty(fault),
+        Verdict::Fine => ExtensionReading::Display(coloured_record(&values[..11])),
     }
 }
 
 // A copyright extension's body.
-fn copyright(body: &[u8]) -> ExtensionAnswer
-    ensures { λ r. ⌜ extensionSays r ≡ answerOf (copyrightOf (now (body .entry))) ⌝ }
+fn copyright(body: &[u8]) -> ExtensionReading
+    ensures { λ r. ⌜ extensionGives r ≡ copyrightOf (now (body .entry)) ⌝ }
 {
     let read = read_body(Layout::Copyright, body);
     let verdict = read.verdict;
     let values = read.values;
     match verdict {
-        Verdict::Faulty(fault) => ExtensionAnswer::Refused(reason_of(fault)),
-        Verdict::Fine => ExtensionAnswer::Copyright(copyright_record(&values[..11])),
+        Verdict::Faulty(fault) => ExtensionReading::Faulty(fault),
+        Verdict::Fine => ExtensionReading::Copyright(copyright_record(&values[..11])),
     }
 }
 
 // Whether an extension's number is 2: in a group's head it is a display extension.
 pub fn is_display(body: &[u8]) -> bool
-    ensures { λ r. ⌜ r ≡ isDisplay (now (body .entry)) ⌝ }
+    ensures { λ r. ⌜ r ≡ numbered 2 (now (body .entry)) ⌝ }
 {
     match bits::read_bits(body, 4, 0, 4) {
         Read::Value(number) => number == 2,
         Read::Missing => false,
         Read::TooWide => false,
+    }
+}
+
+// Whether an extension is opaque where it stands: its number is not 4 and, in a group's head, not 2. An empty body has no number.
+pub fn is_opaque(body: &[u8], place: Place) -> bool
+    ensures { λ r. ⌜ r ≡ isOpaque place (now (body .entry)) ⌝ }
+{
+    match bits::read_bits(body, 4, 0, 4) {
+        Read::Value(number) => match place {
+            Place::Head => number != 4 && number != 2,
+            Place::Picture => number != 4,
+        },
+        Read::Missing => true,
+        Read::TooWide => true,
     }
 }
 
@@ -637,11 +677,11 @@ pub fn display_short(body: &[u8]) -> bool
 }
 
 // A display extension's body, by its colour bit.
-fn display(body: &[u8]) -> ExtensionAnswer
-    ensures { λ r. ⌜ extensionSays r ≡ answerOf (displayOf (now (body .entry))) ⌝ }
+fn display(body: &[u8]) -> ExtensionReading
+    ensures { λ r. ⌜ extensionGives r ≡ displayOf (now (body .entry)) ⌝ }
 {
     if display_short(body) {
-        return ExtensionAnswer::Refused(Reason::Short);
+        return ExtensionReading::Faulty(Fault::Short);
     }
     match bits::read_bit(body, 9, 8) {
         Bit::Is(given) => {
@@ -651,13 +691,13 @@ fn display(body: &[u8]) -> ExtensionAnswer
                 plain(body)
             }
         }
-        Bit::Missing => ExtensionAnswer::Refused(Reason::Short),
+        Bit::Missing => ExtensionReading::Faulty(Fault::Short),
     }
 }
 
 // An extension by its number.
-fn numbered(number: u32, body: &[u8], place: Place) -> ExtensionAnswer
-    ensures { λ r. ⌜ extensionSays r ≡ answerOf (byNumber place (now (body .entry)) number) ⌝ }
+fn by_number(number: u32, body: &[u8], place: Place) -> ExtensionReading
+    ensures { λ r. ⌜ extensionGives r ≡ byNumber place (now (body .entry)) number ⌝ }
 {
     if number == 4 {
         return copyright(body);
@@ -667,10 +707,21 @@ fn numbered(number: u32, body: &[u8], place: Place) -> ExtensionAnswer
             if number == 2 {
                 display(body)
             } else {
-                ExtensionAnswer::Opaque(number)
+                ExtensionReading::Opaque(number)
             }
         }
-        Place::Picture => ExtensionAnswer::Opaque(number),
+        Place::Picture => ExtensionReading::Opaque(number),
+    }
+}
+
+// An extension's body: its record, or of an opaque one its number, or what is wrong with it.
+pub fn read_extension(body: &[u8], place: Place) -> ExtensionReading
+    ensures { λ r. ⌜ extensionGives r ≡ extensionResult place (now (body .entry)) ⌝ }
+{
+    match bits::read_bits(body, 4, 0, 4) {
+        Read::Value(number) => by_number(number, body, place),
+        Read::Missing => ExtensionReading::Faulty(Fault::Short),
+        Read::TooWide => ExtensionReading::Faulty(Fault::Short),
     }
 }
 
@@ -678,9 +729,10 @@ fn numbered(number: u32, body: &[u8], place: Place) -> ExtensionAnswer
 pub fn extension(body: &[u8], place: Place) -> ExtensionAnswer
     ensures { λ r. ⌜ extensionSays r ≡ extensionOf place (now (body .entry)) ⌝ }
 {
-    match bits::read_bits(body, 4, 0, 4) {
-        Read::Value(number) => numbered(number, body, place),
-        Read::Missing => ExtensionAnswer::Refused(Reason::Short),
-        Read::TooWide => ExtensionAnswer::Refused(Reason::Short),
+    match read_extension(body, place) {
+        ExtensionReading::Display(display) => ExtensionAnswer::Display(display),
+        ExtensionReading::Copyright(copyright) => ExtensionAnswer::Copyright(copyright),
+        ExtensionReading::Opaque(number) => ExtensionAnswer::Opaque(number),
+        ExtensionReading::Faulty(fault) => ExtensionAnswer::Refused(reason_of(fault)),
     }
 }

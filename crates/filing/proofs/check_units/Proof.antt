@@ -7,13 +7,10 @@ use native.Mathlib.Omega.{arith}
 use borrow.Author.Needs.{needs}
 use borrow.Author.Tests.{not-true, not-false}
 use lib.ListN.{length, drop}
-use Rattle.answers.specs.Answers.{Outcome, done, refused, mapDone}
-use Rattle.startcode.specs.Prefix.{begins}
-use Rattle.grammar.specs.Reader.{filingOfAny}
 use Rattle.grammar.specs.declared.State.{State}
-use Rattle.filing.specs.Units.{Next, unitSays, unitAt}
-use Rattle.filing.specs.declared.UnitAnswer.the-variants.{Refused}
-use Rattle.filing.proofs.Units.{Advanced, Left, what-is-left}
+use Rattle.units.specs.declared.UnitAnswer.{UnitAnswer}
+use Rattle.units.specs.declared.UnitAnswer.the-variants as answer
+use Rattle.units.proofs.Units.{Advanced, Left, what-is-left}
 use Rattle.filing.proofs.Passes.{Checking, checking-start, checking-next, end-good, end-unended, counted, no-code}
 use Rattle.filing.proofs.check_units.Statement.{statement}
 use Rattle.filing.proofs.check_units.Tie as tie
@@ -28,22 +25,14 @@ abbrev stream-of : tie.At-loop Inv-loop μ-loop → List ℕ
 stream-of l = l .before .before .before .before .args .stream .now
 
 -- what the unit that was read leaves
-what : (u : tie.After-unit-at Inv-loop μ-loop) → let l = u .before .before in Left (stream-of l) (l .loop .state) (l .loop .at) (unitSays (u .unit-at .result))
-what u =
+what : (u : tie.After-unit-at Inv-loop μ-loop) {y : UnitAnswer} → u .unit-at .result ≡ y → let l = u .before .before in Left (stream-of l) (l .loop .state) (l .loop .at) y
+what u e =
     let l = u .before .before in
-    subst (Left (stream-of l) (l .loop .state) (l .loop .at)) (sym (u .unit-at .ensures)) (what-is-left (stream-of l) (l .loop .state) (l .loop .at) (l .loop .inv .here (u .before .loop-test .taken)))
+    subst (Left (stream-of l) (l .loop .state) (l .loop .at)) (sym (u .unit-at .ensures) ∙ e) (what-is-left (stream-of l) (l .loop .state) (l .loop .at) (l .loop .inv .here (u .before .loop-test .taken)))
 
 advanced : (c : tie.After-known-told Inv-loop μ-loop) → let l = c .before .before .before .before .before in let g = c .before .next .given in
-    Advanced (stream-of l) (l .loop .state) (l .loop .at) (record { state = g .0 .0; end = g .0 .1 .0; length = g .0 .1 .1 .0 })
-advanced c =
-    let l = c .before .before .before .before .before in
-    subst (λ y. Left (stream-of l) (l .loop .state) (l .loop .at) (unitSays y)) (c .before .next .given .1) (what (c .before .before .before))
-
-stopped : (c : tie.After-known-told2 Inv-loop μ-loop) → let l = c .before .before .before .before .before in
-    Left (stream-of l) (l .loop .state) (l .loop .at) (unitSays (Refused (c .before .why .given .0 .0)))
-stopped c =
-    let l = c .before .before .before .before .before in
-    subst (λ y. Left (stream-of l) (l .loop .state) (l .loop .at) (unitSays y)) (c .before .why .given .1) (what (c .before .before .before))
+    Advanced (stream-of l) (l .loop .state) (l .loop .at) (g .0 .0) (g .0 .1 .0) (g .0 .1 .1 .0)
+advanced c = what (c .before .before .before) (c .before .next .given .1)
 
 prefix-at-requires : tie.Need-prefix-at-requires Inv-loop μ-loop
 prefix-at-requires c κs = search needs
@@ -67,22 +56,28 @@ loop-less : tie.Need-loop-less Inv-loop μ-loop
 loop-less c = let l = c .before .before .before .before .before in omega (arith, advanced c .forward, advanced c .within)
 
 loop-again : tie.Need-loop-again Inv-loop μ-loop
-loop-again c = let l = c .before .before .before .before .before in checking-next (stream-of l) (l .loop .state) (l .loop .at) (l .loop .units) _ (l .loop .inv) (advanced c)
+loop-again c = let l = c .before .before .before .before .before in checking-next (stream-of l) (l .loop .state) (l .loop .at) (l .loop .units) _ _ _ (l .loop .inv) (advanced c)
 
 enum-known-why : tie.Need-enum-known-why Inv-loop μ-loop
 enum-known-why c = search needs
 
 returns-2 : tie.Need-returns-2 Inv-loop μ-loop
-returns-2 c = let u = c .before .before .before in let l = u .before .before in sym (l .loop .inv .count ∙ ap (counted (l .loop .units)) (stopped c))
+returns-2 c = let u = c .before .before .before in let l = u .before .before in sym (l .loop .inv .count ∙ ap (counted (l .loop .units)) (what u (c .before .why .given .1)))
+
+enum-told : tie.Need-enum-told Inv-loop μ-loop
+enum-told c = search needs
+
+returns-3 : tie.Need-returns-3 Inv-loop μ-loop
+returns-3 c = absurd (what (c .before .before) (c .enum-told .given .1))
 
 is-final-requires : tie.Need-is-final-requires Inv-loop μ-loop
 is-final-requires c κs = search needs
 
-returns-3 : tie.Need-returns-3 Inv-loop μ-loop
-returns-3 c = let l = c .before .before .before in end-good (stream-of l) (l .loop .state) (l .loop .at) (l .loop .units) (l .loop .inv) (c .before .before .loop-test .left) (sym (c .before .is-final .ensures) ∙ c .if2 .taken)
-
 returns-4 : tie.Need-returns-4 Inv-loop μ-loop
-returns-4 c = let l = c .before .before .before in end-unended (stream-of l) (l .loop .state) (l .loop .at) (l .loop .units) (l .loop .inv) (c .before .before .loop-test .left) (sym (c .before .is-final .ensures) ∙ c .if2 .left)
+returns-4 c = let l = c .before .before .before in end-good (stream-of l) (l .loop .state) (l .loop .at) (l .loop .units) (l .loop .inv) (c .before .before .loop-test .left) (sym (c .before .is-final .ensures) ∙ c .if2 .taken)
+
+returns-5 : tie.Need-returns-5 Inv-loop μ-loop
+returns-5 c = let l = c .before .before .before in end-unended (stream-of l) (l .loop .state) (l .loop .at) (l .loop .units) (l .loop .inv) (c .before .before .loop-test .left) (sym (c .before .is-final .ensures) ∙ c .if2 .left)
 
 pub check-units-spec : {M : Type 1} → statement M
 check-units-spec =
@@ -100,6 +95,8 @@ check-units-spec =
     loop-again
     enum-known-why
     returns-2
-    is-final-requires
+    enum-told
     returns-3
-    returns-4)
+    is-final-requires
+    returns-4
+    returns-5)

@@ -1,41 +1,29 @@
--- The layout's answer decides.
+-- By the kind of its code.
 use mathlib.Core.Path.{_≡_, sym, ap, _∙_}
 use borrow.Author.Needs.{needs}
-use borrow.Author.Tests.{eq-eqb, ne-eqb}
-use Rattle.layout.specs.Answers.{headerSays}
-use Rattle.layout.specs.declared.HeaderAnswer.{HeaderAnswer}
-use Rattle.groups.specs.Groups.{headed, beginsGroup}
+use Rattle.startcode.specs.Kinds.{kindSays}
 use Rattle.groups.proofs.begins_group.Statement.{statement}
 use Rattle.groups.proofs.begins_group.Tie as tie
 
-returns : tie.Need-returns
-unfolding beginsGroup
-returns c = rw (ne-eqb _ 0xB0 (c .if1 .taken))
+kind-of-requires : tie.Need-kind-of-requires
+kind-of-requires c κs = search needs
 
--- what an answer says
-said : (c : tie.After-sequence-header) {y : HeaderAnswer} → y ≡ c .sequence-header .result →
-    let a = c .before .before .before .args in headed (headerSays y) ≡ beginsGroup (record { code = a .code; body = a .body .now })
-unfolding beginsGroup
-said c e = ap (λ y. headed (headerSays y)) e ∙ ap headed (c .sequence-header .ensures) ∙ sym (rw (eq-eqb _ 0xB0 (c .before .if1 .left)))
+enum-known-kind : tie.Need-enum-known-kind
+enum-known-kind c = search needs
 
-sequence-header-requires : tie.Need-sequence-header-requires
-sequence-header-requires c κs = search needs
-
-enum-known-header : tie.Need-enum-known-header
-enum-known-header c = search needs
+is-header-requires : tie.Need-is-header-requires
+is-header-requires c κs = search needs
 
 enum-told : tie.Need-enum-told
 enum-told c = search needs
 
-returns-2 : tie.Need-returns-2
-unfolding headerSays
-returns-2 c = said (c .before .before .before) (sym (c .before .header .given .1))
+returns : tie.Need-returns
+returns c = let k = c .before .before in rw (sym (k .before .before .kind-of .ensures) ∙ ap kindSays (k .kind .given .1)) (c .is-header .ensures)
 
-returns-3 : tie.Need-returns-3
-unfolding headerSays
-returns-3 c = said (c .before .before) (sym (c .enum-told .given .1))
+returns-2 : tie.Need-returns-2
+returns-2 c = rw (sym (c .before .before .kind-of .ensures) ∙ ap kindSays (c .enum-told .given .1))
 
 pub begins-group-spec : {M : Type 1} → statement M
 begins-group-spec =
     tie.close
-    (tie.spec returns sequence-header-requires enum-known-header enum-told returns-2 returns-3)
+    (tie.spec kind-of-requires enum-known-kind is-header-requires enum-told returns returns-2)

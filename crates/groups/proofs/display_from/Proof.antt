@@ -1,12 +1,13 @@
 -- What is left of the head has the same display extension.
 use Prim.Native.Nat.{ℕ, _+_, _-_, _≤_, _<_}
-use mathlib.Core.Path.{_≡_, sym, _∙_, subst}
+use mathlib.Core.Path.{_≡_, sym, _∙_, ap, subst}
 use mathlib.Core.List.{List, []}
 use native.Mathlib.Omega.{arith}
 use borrow.Author.Needs.{needs}
 use lib.ListN.{length}
-use Rattle.groups.specs.Groups.{displayBy, displayIn}
-use Rattle.groups.specs.Inside.{unitsFrom}
+use Rattle.groups.specs.Reader.{displayIn}
+use Rattle.groups.specs.Inside.{displayBy, unitsFrom}
+use Rattle.groups.specs.declared.Display.{Display}
 use Rattle.groups.specs.declared.InHead.{InHead}
 use Rattle.groups.proofs.Walk.{Walked, walked, units-end, units-over, Showing, show-end, show-next}
 use Rattle.groups.proofs.display_from.Statement.{statement}
@@ -47,8 +48,13 @@ module _ (u : tie.After-in-group-head Inv-loop μ-loop) where
   step : Walked (stream (here found)) (here found .loop .at) (found .next-prefix .result)
   step = walk found (u .before .before .before .if1 .left)
 
-  answered : {y : InHead} → y ≡ u .in-group-head .result → displayBy y (displayIn (unitsFrom (stream (here found)) (found .next-prefix .result))) ≡ displayIn (unitsFrom (stream (here found)) (from (here found)))
-  answered {y} e = show-next (stream (here found)) (from (here found)) (here found .loop .at) (found .next-prefix .result) (here found .loop .inv) step y (e ∙ u .in-group-head .ensures)
+  abbrev rest : Display
+  rest = displayIn (unitsFrom (stream (here found)) (found .next-prefix .result))
+
+  answered : {y : InHead} → y ≡ u .in-group-head .result → displayBy y rest ≡ displayIn (unitsFrom (stream (here found)) (from (here found)))
+  answered e =
+      ap (λ (y : InHead). displayBy y rest) e ∙ u .in-group-head .ensures rest
+      ∙ show-next (stream (here found)) (from (here found)) (here found .loop .at) (found .next-prefix .result) (here found .loop .inv) step
 
 loop-holds : tie.Need-loop-holds Inv-loop μ-loop
 loop-holds c = search needs

@@ -2,7 +2,7 @@
 use mathlib.Core.Path.{sym, ap, _∙_}
 use borrow.Author.Needs.{needs}
 use Rattle.filing.specs.Filing.{checkedSays}
-use Rattle.groups.proofs.Walk.{here-start, at-good, at-refused}
+use Rattle.groups.proofs.Exactly.{here-start, at-good, at-refused}
 use Rattle.groups.proofs.group_at.Statement.{statement}
 use Rattle.groups.proofs.group_at.Tie as tie
 
@@ -13,7 +13,7 @@ enum-told : tie.Need-enum-told
 enum-told c = search needs
 
 group-number-requires : tie.Need-group-number-requires
-group-number-requires c κs = let k = c .before .before in here-start (k .before .before .args .stream .now) _ (sym (ap checkedSays (c .enum-told .given .1)) ∙ k .check .ensures)
+group-number-requires c κs = let k = c .before .before in here-start (k .before .before .args .stream .now) (k .before .before .args .g) _ (sym (ap checkedSays (c .enum-told .given .1)) ∙ k .check .ensures)
 
 enum-known-refusal : tie.Need-enum-known-refusal
 enum-known-refusal c = search needs

@@ -1,15 +1,13 @@
--- The body's record, or the reason of its fault.
-use mathlib.Core.Path.{_≡_, sym, ap, _∙_}
+-- The body's record, or its fault.
+use mathlib.Core.Path.{_≡_, sym}
 use native.Mathlib.Omega.{arith}
 use lib.ListN.{length, take, length-take}
 use Rattle.layout.specs.Layouts.{fields}
 use Rattle.layout.specs.Records.{colouredRecord}
-use Rattle.layout.specs.Reader.{Result, answerOf, colouredOf}
-use Rattle.answers.specs.Results.{good, _>>=_}
-use Rattle.layout.specs.Answers.{extensionSays, display}
-use Rattle.layout.specs.declared.DisplayExtension.{DisplayExtension}
+use Rattle.layout.specs.Reader.{colouredOf}
+use Rattle.layout.specs.Answers.{extensionGives, display}
 use Rattle.layout.specs.declared.Layout.the-variants.{Coloured}
-use Rattle.layout.proofs.AnswerLaws.{held-length, record-refused, record-made, refused-by}
+use Rattle.layout.proofs.AnswerLaws.{held-length, extension-refused, extension-made}
 use borrow.Author.Needs.{needs}
 use Rattle.layout.proofs.coloured.Statement.{statement}
 use Rattle.layout.proofs.coloured.Tie as tie
@@ -29,9 +27,6 @@ read-body-requires c κs = search needs
 enum-known-verdict : tie.Need-enum-known-verdict
 enum-known-verdict c = search needs
 
-reason-of-requires : tie.Need-reason-of-requires
-reason-of-requires c κs = search needs
-
 enum-told : tie.Need-enum-told
 enum-told c = search needs
 
@@ -45,18 +40,17 @@ coloured-record-requires : tie.Need-coloured-record-requires
 coloured-record-requires c κs = as-many (c .before)
 
 returns : tie.Need-returns
-unfolding extensionSays colouredOf
+unfolding extensionGives colouredOf
 returns c =
-    let b = c .before .before .before .before .before in
-    let e = record-refused Coloured (b .before .before .args .body .now) (b .read-body .result) (b .read-body .ensures) colouredRecord _ (c .before .before .verdict .given .1) in
-    refused-by _ _ (c .reason-of .ensures) ∙ sym (ap (λ (x : Result DisplayExtension). answerOf (x >>= (λ r. good (display r)))) e)
+    let b = c .before .before .before .before in
+    sym (extension-refused Coloured (b .before .before .args .body .now) (b .read-body .result) (b .read-body .ensures) colouredRecord display _ (c .before .verdict .given .1))
 
 returns-2 : tie.Need-returns-2
-unfolding fields extensionSays answerOf colouredOf
+unfolding fields extensionGives colouredOf
 returns-2 c =
     let t = c .before .before in
     let b = read t in
-    sym (ap (λ (x : Result DisplayExtension). answerOf (x >>= (λ r. good (display r)))) (record-made Coloured (b .before .before .args .body .now) (b .read-body .result) (b .read-body .ensures) colouredRecord _ (t .enum-told .given .1) (c .coloured-record .ensures)))
+    sym (extension-made Coloured (b .before .before .args .body .now) (b .read-body .result) (b .read-body .ensures) colouredRecord display _ (t .enum-told .given .1) (c .coloured-record .ensures))
 
 pub coloured-spec : {M : Type 1} → statement M
 coloured-spec =
@@ -64,7 +58,6 @@ coloured-spec =
     (tie.spec
     read-body-requires
     enum-known-verdict
-    reason-of-requires
     enum-told
     array-share-prefix-values
     slice-aggregate-coloured-record

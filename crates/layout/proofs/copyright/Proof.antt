@@ -1,15 +1,13 @@
--- The body's record, or the reason of its fault.
-use mathlib.Core.Path.{_≡_, sym, ap, _∙_}
+-- The body's record, or its fault.
+use mathlib.Core.Path.{_≡_, sym}
 use native.Mathlib.Omega.{arith}
 use lib.ListN.{length, take, length-take}
 use Rattle.layout.specs.Layouts.{fields}
 use Rattle.layout.specs.Records.{copyrightRecord}
-use Rattle.layout.specs.Reader.{Result, answerOf, copyrightOf}
-use Rattle.answers.specs.Results.{good, _>>=_}
-use Rattle.layout.specs.Answers.{extensionSays, copyright}
-use Rattle.layout.specs.declared.CopyrightExtension.{CopyrightExtension}
+use Rattle.layout.specs.Reader.{copyrightOf}
+use Rattle.layout.specs.Answers.{extensionGives, copyright}
 use Rattle.layout.specs.declared.Layout.the-variants.{Copyright}
-use Rattle.layout.proofs.AnswerLaws.{held, held-length, record-refused, record-made, refused-by}
+use Rattle.layout.proofs.AnswerLaws.{held, held-length, extension-refused, extension-made}
 use borrow.Author.Needs.{needs}
 use Rattle.layout.proofs.copyright.Statement.{statement}
 use Rattle.layout.proofs.copyright.Tie as tie
@@ -29,9 +27,6 @@ read-body-requires c κs = search needs
 enum-known-verdict : tie.Need-enum-known-verdict
 enum-known-verdict c = search needs
 
-reason-of-requires : tie.Need-reason-of-requires
-reason-of-requires c κs = search needs
-
 enum-told : tie.Need-enum-told
 enum-told c = search needs
 
@@ -48,18 +43,17 @@ copyright-record-requires c κs =
     (as-many (c .before), held Copyright (r .before .before .args .body .now) (r .read-body .result) (r .read-body .ensures) (c .before .enum-told .given .1))
 
 returns : tie.Need-returns
-unfolding extensionSays copyrightOf
+unfolding extensionGives copyrightOf
 returns c =
-    let b = c .before .before .before .before .before in
-    let e = record-refused Copyright (b .before .before .args .body .now) (b .read-body .result) (b .read-body .ensures) copyrightRecord _ (c .before .before .verdict .given .1) in
-    refused-by _ _ (c .reason-of .ensures) ∙ sym (ap (λ (x : Result CopyrightExtension). answerOf (x >>= (λ r. good (copyright r)))) e)
+    let b = c .before .before .before .before in
+    sym (extension-refused Copyright (b .before .before .args .body .now) (b .read-body .result) (b .read-body .ensures) copyrightRecord copyright _ (c .before .verdict .given .1))
 
 returns-2 : tie.Need-returns-2
-unfolding fields extensionSays answerOf copyrightOf
+unfolding fields extensionGives copyrightOf
 returns-2 c =
     let t = c .before .before in
     let b = read t in
-    sym (ap (λ (x : Result CopyrightExtension). answerOf (x >>= (λ r. good (copyright r)))) (record-made Copyright (b .before .before .args .body .now) (b .read-body .result) (b .read-body .ensures) copyrightRecord _ (t .enum-told .given .1) (c .copyright-record .ensures)))
+    sym (extension-made Copyright (b .before .before .args .body .now) (b .read-body .result) (b .read-body .ensures) copyrightRecord copyright _ (t .enum-told .given .1) (c .copyright-record .ensures))
 
 pub copyright-spec : {M : Type 1} → statement M
 copyright-spec =
@@ -67,7 +61,6 @@ copyright-spec =
     (tie.spec
     read-body-requires
     enum-known-verdict
-    reason-of-requires
     enum-told
     array-share-prefix-values
     slice-aggregate-copyright-record

@@ -7,8 +7,8 @@ use borrow.Author.Tests.{eq-eqb, ne-eqb}
 use Rattle.bits.specs.Bits.{bitsOf}
 use Rattle.bits.specs.declared.Bit.{Bit}
 use Rattle.answers.specs.Results.{_>>=_}
-use Rattle.layout.specs.Answers.{faultNumber, reasonNumber, extensionSays}
-use Rattle.layout.specs.Reader.{answerOf, colouredOf, plainOf, readBit, displayOf}
+use Rattle.layout.specs.Answers.{extensionGives}
+use Rattle.layout.specs.Reader.{colouredOf, plainOf, readBit, displayOf}
 use Rattle.layout.proofs.AnswerLaws.{bit-within, display-short, display-long}
 use borrow.Author.Needs.{needs}
 use Rattle.layout.proofs.display.Statement.{statement}
@@ -27,8 +27,8 @@ display-short-requires : tie.Need-display-short-requires
 display-short-requires c κs = search needs
 
 returns : tie.Need-returns
-unfolding answerOf faultNumber reasonNumber extensionSays
-returns c = sym (ap answerOf (display-short (c .before .before .before .args .body .now) (sym (c .before .display-short .ensures) ∙ c .if1 .taken)))
+unfolding extensionGives
+returns c = sym (display-short (c .before .before .before .args .body .now) (sym (c .before .display-short .ensures) ∙ c .if1 .taken))
 
 read-bit-requires : tie.Need-read-bit-requires
 read-bit-requires c κs = search needs
@@ -50,18 +50,18 @@ returns-2 c =
     let t = c .before in
     let r = t .before .before .before .before in
     let body = entry r .args .body .now in
-    c .coloured .ensures ∙ sym (ap answerOf (by-bit r _ (t .before .before .given .given .1) ∙ ap (λ (b : Bool). cond b (colouredOf body) (plainOf body)) (eq-eqb _ 1 (t .if2 .taken))))
+    c .coloured .ensures ∙ sym (by-bit r _ (t .before .before .given .given .1) ∙ ap (λ (b : Bool). cond b (colouredOf body) (plainOf body)) (eq-eqb _ 1 (t .if2 .taken)))
 
 returns-3 : tie.Need-returns-3
 returns-3 c =
     let t = c .before in
     let r = t .before .before .before .before in
     let body = entry r .args .body .now in
-    c .plain .ensures ∙ sym (ap answerOf (by-bit r _ (t .before .before .given .given .1) ∙ ap (λ (b : Bool). cond b (colouredOf body) (plainOf body)) (ne-eqb _ 1 (t .if2 .left))))
+    c .plain .ensures ∙ sym (by-bit r _ (t .before .before .given .given .1) ∙ ap (λ (b : Bool). cond b (colouredOf body) (plainOf body)) (ne-eqb _ 1 (t .if2 .left)))
 
 returns-4 : tie.Need-returns-4
-unfolding answerOf faultNumber reasonNumber extensionSays
-returns-4 c = sym (ap answerOf (by-bit (c .before .before) _ (c .enum-told .given .1)))
+unfolding extensionGives
+returns-4 c = sym (by-bit (c .before .before) _ (c .enum-told .given .1))
 
 pub display-spec : {M : Type 1} → statement M
 display-spec =

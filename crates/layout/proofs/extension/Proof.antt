@@ -1,63 +1,63 @@
--- An empty body has no number, and is SHORT; any other goes by its number.
+-- The reading, with the reason of its fault.
 use mathlib.Core.Path.{_≡_, sym, ap, _∙_}
-use Rattle.bits.specs.Bits.{bitsOf}
-use Rattle.bits.specs.declared.Read.{Read}
-use Rattle.layout.specs.Reader.{readValue, answerOf, byNumber, extensionResult, extensionOf}
-use Rattle.answers.specs.Results.{_>>=_}
-use Rattle.layout.specs.Answers.{faultNumber, reasonNumber, extensionSays}
-use Rattle.layout.proofs.ReadingLaws.{read-inside}
+use Rattle.layout.specs.Answers.{extensionGives, extensionSays}
+use Rattle.layout.specs.Reader.{answerOf, extensionOf}
+use Rattle.layout.specs.declared.ExtensionReading.{ExtensionReading}
+use Rattle.layout.proofs.AnswerLaws.{refused-by}
 use borrow.Author.Needs.{needs}
 use Rattle.layout.proofs.extension.Statement.{statement}
 use Rattle.layout.proofs.extension.Tie as tie
 
-module _ (c : tie.After-read-bits) where
-  abbrev entry : tie.Start
-  entry = c .before .before
+answered : (c : tie.After-read-extension) (x : ExtensionReading) → c .read-extension .result ≡ x →
+    answerOf (extensionGives x) ≡ extensionOf (c .before .before .args .place) (c .before .before .args .body .now)
+unfolding extensionOf
+answered c x e = ap answerOf (ap extensionGives (sym e) ∙ c .read-extension .ensures)
 
-  by-read : (x : Read) → c .read-bits .result ≡ x → extensionResult (entry .args .place) (entry .args .body .now) ≡ (readValue x >>= byNumber (entry .args .place) (entry .args .body .now))
-  unfolding extensionResult
-  by-read x e =
-      let a = entry .args in
-      ap (λ (x : Read). readValue x >>= byNumber (a .place) (a .body .now)) (sym (c .read-bits .ensures ∙ read-inside (bitsOf (a .body .now)) 0 4) ∙ e)
+read-extension-requires : tie.Need-read-extension-requires
+read-extension-requires c κs = search needs
 
-read-bits-requires : tie.Need-read-bits-requires
-read-bits-requires c κs = search needs
+enum-known-display : tie.Need-enum-known-display
+enum-known-display c = search needs
+
+enum-known-copyright : tie.Need-enum-known-copyright
+enum-known-copyright c = search needs
 
 enum-known-number : tie.Need-enum-known-number
 enum-known-number c = search needs
 
-numbered-requires : tie.Need-numbered-requires
-numbered-requires c κs = search needs
+enum-known-fault : tie.Need-enum-known-fault
+enum-known-fault c = search needs
 
-enum-told : tie.Need-enum-told
-enum-told c = search needs
-
-enum-told-2 : tie.Need-enum-told-2
-enum-told-2 c = search needs
+reason-of-requires : tie.Need-reason-of-requires
+reason-of-requires c κs = search needs
 
 returns : tie.Need-returns
-unfolding extensionOf
-returns c =
-    let r = c .before .before .before .before in
-    c .numbered .ensures ∙ sym (ap answerOf (by-read r _ (c .before .before .number .given .1)))
+unfolding extensionGives extensionSays answerOf
+returns c = answered (c .before .before .before) _ (c .before .display .given .1)
 
 returns-2 : tie.Need-returns-2
-unfolding extensionOf answerOf faultNumber reasonNumber extensionSays
-returns-2 c = sym (ap answerOf (by-read (c .before .before) _ (c .enum-told .given .1)))
+unfolding extensionGives extensionSays answerOf
+returns-2 c = answered (c .before .before .before) _ (c .before .copyright .given .1)
 
 returns-3 : tie.Need-returns-3
-unfolding extensionOf answerOf faultNumber reasonNumber extensionSays
-returns-3 c = sym (ap answerOf (by-read (c .before .before) _ (c .enum-told2 .given .1)))
+unfolding extensionGives extensionSays answerOf
+returns-3 c = answered (c .before .before .before) _ (c .before .number .given .1)
+
+returns-4 : tie.Need-returns-4
+unfolding extensionGives extensionSays
+returns-4 c = let f = c .before .before in refused-by _ _ (c .reason-of .ensures) ∙ answered (f .before .before) _ (f .fault .given .1)
 
 pub extension-spec : {M : Type 1} → statement M
 extension-spec =
     tie.close
     (tie.spec
-    read-bits-requires
+    read-extension-requires
+    enum-known-display
+    enum-known-copyright
     enum-known-number
-    numbered-requires
-    enum-told
-    enum-told-2
+    enum-known-fault
+    reason-of-requires
     returns
     returns-2
-    returns-3)
+    returns-3
+    returns-4)

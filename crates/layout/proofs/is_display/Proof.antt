@@ -1,14 +1,19 @@
 -- The number is the one that the first four bits write.
 use mathlib.Core.Path.{_≡_, sym, ap, _∙_}
+use native.Mathlib.Omega.{arith}
 use Rattle.bits.specs.Bits.{bitsOf}
-use Rattle.layout.specs.Reader.{numberOf, isTwo, isDisplay}
+use Rattle.bits.specs.declared.Read.{Read}
+use Rattle.layout.specs.Extensions.{numbered}
+use Rattle.layout.proofs.NumberLaws.{isRead, numbered-read}
 use Rattle.layout.proofs.ReadingLaws.{read-inside}
 use borrow.Author.Needs.{needs}
 use Rattle.layout.proofs.is_display.Statement.{statement}
 use Rattle.layout.proofs.is_display.Tie as tie
 
-number-is : (c : tie.After-read-bits) → numberOf (c .before .before .args .body .now) ≡ c .read-bits .result
-number-is c = sym (c .read-bits .ensures ∙ read-inside (bitsOf (c .before .before .args .body .now)) 0 4)
+told : (c : tie.After-read-bits) (r : Read) → c .read-bits .result ≡ r → isRead 2 r ≡ numbered 2 (c .before .before .args .body .now)
+told c r e =
+    let body = c .before .before .args .body .now in
+    sym (numbered-read body 2 (omega arith) ∙ ap (isRead 2) (sym (c .read-bits .ensures ∙ read-inside (bitsOf body) 0 4) ∙ e))
 
 read-bits-requires : tie.Need-read-bits-requires
 read-bits-requires c κs = search needs
@@ -23,16 +28,13 @@ enum-told-2 : tie.Need-enum-told-2
 enum-told-2 c = search needs
 
 returns : tie.Need-returns
-unfolding isDisplay
-returns c = sym (ap isTwo (number-is (c .before .before .before) ∙ c .before .number .given .1))
+returns c = told (c .before .before .before) _ (c .before .number .given .1)
 
 returns-2 : tie.Need-returns-2
-unfolding isDisplay
-returns-2 c = sym (ap isTwo (number-is (c .before .before) ∙ c .enum-told .given .1))
+returns-2 c = told (c .before .before) _ (c .enum-told .given .1)
 
 returns-3 : tie.Need-returns-3
-unfolding isDisplay
-returns-3 c = sym (ap isTwo (number-is (c .before .before) ∙ c .enum-told2 .given .1))
+returns-3 c = told (c .before .before) _ (c .enum-told2 .given .1)
 
 pub is-display-spec : {M : Type 1} → statement M
 is-display-spec =

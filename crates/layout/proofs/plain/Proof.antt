@@ -1,15 +1,13 @@
--- The body's record, or the reason of its fault.
-use mathlib.Core.Path.{_≡_, sym, ap, _∙_}
+-- The body's record, or its fault.
+use mathlib.Core.Path.{_≡_, sym}
 use native.Mathlib.Omega.{arith}
 use lib.ListN.{length, take, length-take}
 use Rattle.layout.specs.Layouts.{fields}
 use Rattle.layout.specs.Records.{plainRecord}
-use Rattle.layout.specs.Reader.{Result, answerOf, plainOf}
-use Rattle.answers.specs.Results.{good, _>>=_}
-use Rattle.layout.specs.Answers.{extensionSays, display}
-use Rattle.layout.specs.declared.DisplayExtension.{DisplayExtension}
+use Rattle.layout.specs.Reader.{plainOf}
+use Rattle.layout.specs.Answers.{extensionGives, display}
 use Rattle.layout.specs.declared.Layout.the-variants.{Display}
-use Rattle.layout.proofs.AnswerLaws.{held-length, record-refused, record-made, refused-by}
+use Rattle.layout.proofs.AnswerLaws.{held-length, extension-refused, extension-made}
 use borrow.Author.Needs.{needs}
 use Rattle.layout.proofs.plain.Statement.{statement}
 use Rattle.layout.proofs.plain.Tie as tie
@@ -29,9 +27,6 @@ read-body-requires c κs = search needs
 enum-known-verdict : tie.Need-enum-known-verdict
 enum-known-verdict c = search needs
 
-reason-of-requires : tie.Need-reason-of-requires
-reason-of-requires c κs = search needs
-
 enum-told : tie.Need-enum-told
 enum-told c = search needs
 
@@ -45,18 +40,17 @@ plain-record-requires : tie.Need-plain-record-requires
 plain-record-requires c κs = as-many (c .before)
 
 returns : tie.Need-returns
-unfolding extensionSays plainOf
+unfolding extensionGives plainOf
 returns c =
-    let b = c .before .before .before .before .before in
-    let e = record-refused Display (b .before .before .args .body .now) (b .read-body .result) (b .read-body .ensures) plainRecord _ (c .before .before .verdict .given .1) in
-    refused-by _ _ (c .reason-of .ensures) ∙ sym (ap (λ (x : Result DisplayExtension). answerOf (x >>= (λ r. good (display r)))) e)
+    let b = c .before .before .before .before in
+    sym (extension-refused Display (b .before .before .args .body .now) (b .read-body .result) (b .read-body .ensures) plainRecord display _ (c .before .verdict .given .1))
 
 returns-2 : tie.Need-returns-2
-unfolding fields extensionSays answerOf plainOf
+unfolding fields extensionGives plainOf
 returns-2 c =
     let t = c .before .before in
     let b = read t in
-    sym (ap (λ (x : Result DisplayExtension). answerOf (x >>= (λ r. good (display r)))) (record-made Display (b .before .before .args .body .now) (b .read-body .result) (b .read-body .ensures) plainRecord _ (t .enum-told .given .1) (c .plain-record .ensures)))
+    sym (extension-made Display (b .before .before .args .body .now) (b .read-body .result) (b .read-body .ensures) plainRecord display _ (t .enum-told .given .1) (c .plain-record .ensures))
 
 pub plain-spec : {M : Type 1} → statement M
 plain-spec =
@@ -64,7 +58,6 @@ plain-spec =
     (tie.spec
     read-body-requires
     enum-known-verdict
-    reason-of-requires
     enum-told
     array-share-prefix-values
     slice-aggregate-plain-record

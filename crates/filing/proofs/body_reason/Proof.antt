@@ -1,0 +1,39 @@
+-- Each arm is one fault.
+use borrow.Author.Needs.{needs}
+use Rattle.layout.specs.Answers.{faultNumber}
+use Rattle.filing.proofs.body_reason.Statement.{statement}
+use Rattle.filing.proofs.body_reason.Tie as tie
+use Rattle.filing.proofs.body_reason.Reads as reads
+
+enum-told : tie.Need-enum-told
+enum-told c = search needs
+
+enum-told-2 : tie.Need-enum-told-2
+enum-told-2 c = search needs
+
+enum-told-3 : tie.Need-enum-told-3
+enum-told-3 c = search needs
+
+enum-told-4 : tie.Need-enum-told-4
+enum-told-4 c = search needs
+
+returns : tie.Need-returns
+unfolding faultNumber
+returns c = rw (c .enum-told .given .1)
+
+returns-2 : tie.Need-returns-2
+unfolding faultNumber
+returns-2 c = rw (c .enum-told2 .given .1)
+
+returns-3 : tie.Need-returns-3
+unfolding faultNumber
+returns-3 c = rw (c .enum-told3 .given .1)
+
+returns-4 : tie.Need-returns-4
+unfolding faultNumber
+returns-4 c = rw (c .enum-told4 .given .1)
+
+pub body-reason-spec : {M : Type 1} → statement M
+body-reason-spec =
+    tie.close
+    (tie.spec enum-told enum-told-2 enum-told-3 enum-told-4 returns returns-2 returns-3 returns-4)

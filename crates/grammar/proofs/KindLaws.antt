@@ -1,0 +1,56 @@
+-- Kinds of unit are told apart.
+use Prim.Native.Nat.{ℕ}
+use mathlib.Core.Path.{_≡_, refl, sym, _∙_, ap}
+use mathlib.Core.Logic.{_⊎_, inl, inr}
+use mathlib.Core.List.{List, [], _∷_}
+use mathlib.Core.Bool.{true, false, cond, _&&_}
+use native.Mathlib.Omega.{arith}
+use borrow.Author.Tests.{eqb-true, eq-eqb}
+use lib.Dec.{leb, eqb}
+use Rattle.answers.specs.Answers.{Outcome, done, refused, UNKNOWN}
+use Rattle.answers.proofs.Outcomes.{undone, done-one}
+use Rattle.bits.proofs.Lists.{by-test}
+use Rattle.startcode.specs.Kinds.{Codes, kindIn, kinds, kindOf}
+use Rattle.startcode.specs.declared.Kind.{Kind}
+use Rattle.startcode.specs.declared.Kind.the-variants as kind
+use Rattle.grammar.specs.Reader.{kindIndex, sameKind}
+
+kindAt : ℕ → Kind
+kindAt n =
+    cond (eqb n 0) kind.Slice
+    (cond (eqb n 1) kind.SequenceHeader
+    (cond (eqb n 2) kind.SequenceEnd
+    (cond (eqb n 3) kind.UserData
+    (cond (eqb n 4) kind.IPicture
+    (cond (eqb n 5) kind.Extension
+    (cond (eqb n 6) kind.PBPicture kind.EditCode))))))
+
+index-undone : (k : Kind) → kindAt (kindIndex k) ≡ k
+unfolding kindAt
+index-undone kind.Slice = refl
+index-undone kind.SequenceHeader = refl
+index-undone kind.SequenceEnd = refl
+index-undone kind.UserData = refl
+index-undone kind.IPicture = refl
+index-undone kind.Extension = refl
+index-undone kind.PBPicture = refl
+index-undone kind.EditCode = refl
+
+pub same-true : (j k : Kind) → sameKind j k ≡ true → j ≡ k
+same-true j k t = undone kindIndex kindAt index-undone j k (eqb-true (kindIndex j) (kindIndex k) t)
+
+pub true-same : (j k : Kind) → j ≡ k → sameKind j k ≡ true
+true-same j k e = eq-eqb (kindIndex j) (kindIndex k) (ap kindIndex e)
+
+-- no unit has two kinds
+pub apart : {P : Type 0} {o : Outcome Kind} (j k : Kind) → sameKind j k ≡ false → o ≡ done j → o ≡ done k → P
+apart j k d e f = let s = true-same j k (done-one (sym e ∙ f)) in let z : _≡_ {A = ℕ} 0 1 = cc in absurd (omega arith)
+
+-- every code has a kind, or is UNKNOWN
+kind-in : (cs : List Codes) (c : ℕ) → ((k : Kind) × (kindIn cs c ≡ done k)) ⊎ (kindIn cs c ≡ refused UNKNOWN [])
+kind-in [] c = inr refl
+kind-in (x ∷ cs) c = by-test (leb (x .first) c && leb c (x .last)) (λ t. inl (x .kind, rw t)) (λ f. rw f (kind-in cs c))
+
+pub kind-or-not : (c : ℕ) → ((k : Kind) × (kindOf c ≡ done k)) ⊎ (kindOf c ≡ refused UNKNOWN [])
+unfolding kindOf
+kind-or-not c = kind-in kinds c

@@ -1,0 +1,116 @@
+-- The laws that the function of one unit goes by.
+use Prim.Native.Nat.{ℕ, zero, suc, _≤_, _<_, _+_, _-_}
+use mathlib.Core.Path.{_≡_, refl, sym, _∙_, ap}
+use mathlib.Core.List.{List, [], _∷_, _++_}
+use mathlib.Core.Bool.{Bool, true, false, cond}
+use lib.Dec.{eqb}
+use lib.ListN.{length, getD, take, drop, length-append}
+use lib.Seq.{take-suc, take-length}
+use borrow.Author.Tests.{ne-eqb, lt-ltb, le-ltb, le-leb, lt-leb}
+use native.Mathlib.Numerals.{add-one}
+use native.Mathlib.Omega.{arith}
+use Rattle.answers.specs.Answers.{Outcome, done, refused}
+use Rattle.layout.specs.Extensions.{numbered}
+use Rattle.layout.specs.Reader.{displayOf, extensionResult, byNumber, allZero}
+use Rattle.layout.specs.declared.Place.{Place}
+use Rattle.layout.specs.declared.Place.the-variants as place
+use Rattle.layout.proofs.NumberLaws.{number-iff}
+use Rattle.startcode.specs.Kinds.{kindOf}
+use Rattle.startcode.specs.declared.Kind.{Kind}
+use Rattle.startcode.specs.declared.Kind.the-variants as kind
+use Rattle.grammar.specs.Grammar.{StreamUnit}
+use Rattle.grammar.specs.Rows.{placed, kept, trimmed, wholeBody, rowLength}
+use Rattle.grammar.specs.Reader.{isNil, sliceStep, placeOf, placeIn}
+use Rattle.grammar.specs.declared.SliceRule.{SliceRule}
+use Rattle.grammar.specs.declared.State.{State}
+use Rattle.grammar.specs.declared.State.the-variants.{Start, Head, Picture as InPicture, Slices, Ended, Closed}
+use Rattle.grammar.specs.declared.Reason.the-variants.{SliceOrder, SliceRow}
+use Rattle.grammar.specs.declared.Step.{Step}
+use Rattle.grammar.specs.declared.Step.the-variants.{Go as go, Stop as stop}
+use Rattle.grammar.proofs.Division.{number-two}
+use Rattle.units.specs.Inside.{extensionPlace}
+
+-- ── trailing zeros ──
+
+trim-zero : (l : List ℕ) → trimmed (l ++ (0 ∷ [])) ≡ trimmed l
+trim-zero [] = refl
+trim-zero (x ∷ l) = ap (kept x) (trim-zero l)
+
+kept-snoc : (y : ℕ) (l : List ℕ) (x : ℕ) → kept y (l ++ (x ∷ [])) ≡ y ∷ (l ++ (x ∷ []))
+kept-snoc y [] x = refl
+kept-snoc y (z ∷ l) x = refl
+
+trim-not : (l : List ℕ) (x : ℕ) → (x ≡ 0 → ⊥) → trimmed (l ++ (x ∷ [])) ≡ l ++ (x ∷ [])
+trim-not [] x h = simp (ne-eqb x 0 h)
+trim-not (y ∷ l) x h = ap (kept y) (trim-not l x h) ∙ kept-snoc y l x
+
+-- the last of the first n bytes
+module _ (b : List ℕ) (n : ℕ) (h : 0 < n) (k : n ≤ length b) where
+  last-is : take n b ≡ take (n - 1) b ++ (getD b (n - 1) 0 ∷ [])
+  last-is = let e : n ≡ suc (n - 1) = omega arith in ap (λ (x : ℕ). take x b) e ∙ take-suc b (n - 1) 0 (omega arith)
+
+  pub trim-more : getD b (n - 1) 0 ≡ 0 → trimmed (take n b) ≡ trimmed (take (n - 1) b)
+  trim-more z = ap trimmed (last-is ∙ ap (λ (x : ℕ). take (n - 1) b ++ (x ∷ [])) z) ∙ trim-zero (take (n - 1) b)
+
+  pub trim-end : (getD b (n - 1) 0 ≡ 0 → ⊥) → trimmed (take n b) ≡ take n b
+  trim-end z = ap trimmed last-is ∙ trim-not (take (n - 1) b) (getD b (n - 1) 0) z ∙ sym last-is
+
+pub trim-all : (b : List ℕ) → trimmed b ≡ trimmed (take (length b) b)
+trim-all b = ap trimmed (sym (take-length b))
+
+-- ── empty bodies ──
+
+pub nil-length : (b : List ℕ) → length b ≡ 0 → isNil b ≡ true
+nil-length [] e = refl
+nil-length (x ∷ b) e = absurd (omega arith)
+
+pub not-nil-length : (b : List ℕ) → (length b ≡ 0 → ⊥) → isNil b ≡ false
+not-nil-length [] h = absurd (h refl)
+not-nil-length (x ∷ b) h = refl
+
+-- ── number 2 in a group's head ──
+
+pub head-display : (body : List ℕ) → numbered 2 body ≡ true → extensionResult place.Head body ≡ displayOf body
+unfolding extensionResult byNumber
+head-display body t = rw (number-iff body 2 .1 (number-two body .0 t))
+
+-- ── slices ──
+
+module _ (rule : SliceRule) (least code n : ℕ) (body : List ℕ) (e : n ≡ code) where
+  slice-next : go (Slices rule (n + 1)) ≡ go (Slices rule (code + 1))
+  slice-next = ap (λ (x : ℕ). go (Slices rule (x + 1))) e
+
+  pub slice-free : allZero body ≡ false → rule .tested ≡ false → go (Slices rule (n + 1)) ≡ sliceStep rule least (record { code = code; body = body })
+  slice-free z t = slice-next ∙ rw (z, t)
+
+  pub slice-order : allZero body ≡ false → rule .tested ≡ true → n < least → stop SliceOrder ≡ sliceStep rule least (record { code = code; body = body })
+  slice-order z t h = rw (z, t, lt-ltb code least (omega arith))
+
+  pub slice-row : allZero body ≡ false → rule .tested ≡ true → least ≤ n → rule .rows ≤ n → stop SliceRow ≡ sliceStep rule least (record { code = code; body = body })
+  slice-row z t h k = rw (z, t, le-ltb code least (omega arith), le-leb (rule .rows) code (omega arith))
+
+  pub slice-go : allZero body ≡ false → rule .tested ≡ true → least ≤ n → n < rule .rows → go (Slices rule (n + 1)) ≡ sliceStep rule least (record { code = code; body = body })
+  slice-go z t h k = slice-next ∙ rw (z, t, le-ltb code least (omega arith), lt-leb (rule .rows) code (omega arith))
+
+-- ── a row's length ──
+
+-- where a unit stands matters for an extension alone
+place-same : (q : State) (k : Kind) (body : List ℕ) → wholeBody (done k) (extensionPlace q) body ≡ wholeBody (done k) (placeOf q (done k)) body
+place-same Start k body = refl
+place-same (Head rule d) kind.Slice body = refl
+place-same (Head rule d) kind.SequenceHeader body = refl
+place-same (Head rule d) kind.SequenceEnd body = refl
+place-same (Head rule d) kind.UserData body = refl
+place-same (Head rule d) kind.IPicture body = refl
+place-same (Head rule d) kind.Extension body = refl
+place-same (Head rule d) kind.PBPicture body = refl
+place-same (Head rule d) kind.EditCode body = refl
+place-same (InPicture rule) k body = refl
+place-same (Slices rule n) k body = refl
+place-same Ended k body = refl
+place-same Closed k body = refl
+
+pub length-same : (q : State) (k : Kind) (u : StreamUnit) → kindOf (u .code) ≡ done k →
+    length (cond (wholeBody (done k) (extensionPlace q) (u .body)) (u .body) (trimmed (u .body))) ≡ rowLength (placed (placeIn q u) u)
+unfolding rowLength
+length-same q k u e = rw (e, place-same q k (u .body))

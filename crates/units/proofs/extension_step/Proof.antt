@@ -1,0 +1,62 @@
+-- The layout's reading decides the step.
+use mathlib.Core.Path.{_≡_, sym, ap, _∙_}
+use borrow.Author.Needs.{needs}
+use Rattle.layout.specs.Answers.{extensionGives}
+use Rattle.layout.specs.Reader.{extensionResult}
+use Rattle.layout.specs.declared.ExtensionReading.{ExtensionReading}
+use Rattle.grammar.specs.Reader.{by}
+use Rattle.units.proofs.extension_step.Statement.{statement}
+use Rattle.units.proofs.extension_step.Tie as tie
+
+-- what a reading gives is the step
+given : (c : tie.After-read-extension) {y : ExtensionReading} → c .read-extension .result ≡ y →
+    let a = c .before .before .args in
+    by (extensionGives y) (λ x. a .next) ≡ by (extensionResult (a .place) (a .body .now)) (λ x. a .next)
+given c e =
+    let a = c .before .before .args in
+    ap (λ (y : ExtensionReading). by (extensionGives y) (λ x. a .next)) (sym e) ∙ ap (λ r. by r (λ x. a .next)) (c .read-extension .ensures)
+
+read-extension-requires : tie.Need-read-extension-requires
+read-extension-requires c κs = search needs
+
+enum-told : tie.Need-enum-told
+enum-told c = search needs
+
+enum-told-2 : tie.Need-enum-told-2
+enum-told-2 c = search needs
+
+enum-told-3 : tie.Need-enum-told-3
+enum-told-3 c = search needs
+
+enum-known-fault : tie.Need-enum-known-fault
+enum-known-fault c = search needs
+
+returns : tie.Need-returns
+unfolding extensionGives
+returns c = given (c .before .before) (c .enum-told .given .1)
+
+returns-2 : tie.Need-returns-2
+unfolding extensionGives
+returns-2 c = given (c .before .before) (c .enum-told2 .given .1)
+
+returns-3 : tie.Need-returns-3
+unfolding extensionGives
+returns-3 c = given (c .before .before) (c .enum-told3 .given .1)
+
+returns-4 : tie.Need-returns-4
+unfolding extensionGives
+returns-4 c = given (c .before .before .before) (c .before .fault .given .1)
+
+pub extension-step-spec : {M : Type 1} → statement M
+extension-step-spec =
+    tie.close
+    (tie.spec
+    read-extension-requires
+    enum-told
+    enum-told-2
+    enum-told-3
+    enum-known-fault
+    returns
+    returns-2
+    returns-3
+    returns-4)

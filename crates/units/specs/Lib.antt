@@ -1,0 +1,3 @@
+-- One unit of a stream, read in a state.
+pub mod Reader
+pub mod Inside
