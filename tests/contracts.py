@@ -1,5 +1,6 @@
 #!/usr/bin/env python3
-"""Each public function of the library has an `ensures` and no `requires`; a line for each that falls short, and exit 1.
+"""Each public function of the library has an `ensures` and no `requires`, and its `ensures` say what is in all memory lent to it
+afterwards: `NAME .exit` for each `&mut` parameter NAME. A line for each that falls short, and exit 1.
 
 The programs that rt ci runs, and what they print with, answer nothing and are passed over.
 """
@@ -25,11 +26,26 @@ def heads(lines):
         yield start + 1, text
 
 
+def clauses(text):
+    """Of a head its signature, and its clauses with the lines that go on with them."""
+    found = [""]
+    for line in text:
+        if re.match(r"(requires|ensures|ghost)\b", line):
+            found.append("")
+        found[-1] += line + " "
+    return found[0], found[1:]
+
+
 def faults(text):
-    if any(line.startswith("requires") for line in text):
+    signature, rest = clauses(text)
+    if any(clause.startswith("requires") for clause in rest):
         yield "has a requires"
-    if not any(line.startswith("ensures") for line in text):
+    ensures = [clause for clause in rest if clause.startswith("ensures")]
+    if not ensures:
         yield "has no ensures"
+    for name in re.findall(r"(\w+): &(?:'\w+ )?mut\b", signature):
+        if not any(re.search(rf"(?<!\w)«?{name}»? \.exit\b", clause) for clause in ensures):
+            yield f"does not say what is in {name} afterwards"
 
 
 def main():

@@ -1,4 +1,5 @@
-/* The examples of document 01 through the C header: each line prints what it is, and exit 1 where one differs. */
+/* The examples of document 01 through the C header, and null pointers with length 0: each line prints what it is, and exit 1 where
+ * one differs. */
 #include <stdio.h>
 #include <string.h>
 
@@ -103,10 +104,26 @@ static void bins(void) {
     expect("12: start done, then PAYLOAD OUT", s.status == 0 && b.status == 14 && b.bin == AVSPLUS_NO_BIN && b.state.place == s.state.place);
 }
 
+/* A null pointer with length 0, for what is read and for what is lent to be written. */
+static void nothing(void) {
+    avsplus_state none = {0, 0, 0, 0, 0};
+    expect("null rows: FULL", is(avsplus_file(stream, sizeof stream, NULL, 0), 12, 0, 0));
+    expect("null stream and rows: NO CODE", is(avsplus_file(NULL, 0, NULL, 0), 1, 0, 0));
+    expect("null rows hold no row", !avsplus_row_exists(stream, sizeof stream, NULL, 0, 0) && avsplus_row_body(NULL, 0, NULL, 0, 0).length == 0);
+    expect("null numbers: FULL for a header", is(avsplus_group_header(stream, sizeof stream, 0, NULL, 0), 12, 0, 0));
+    expect("null numbers: a display extension not given", is(avsplus_group_display(stream, sizeof stream, 0, NULL, 0), 0, 0, 0));
+    expect("null body and numbers: SHORT", is(avsplus_sequence_header(NULL, 0, NULL, 0), 6, 0, 0) && is(avsplus_extension(NULL, 0, true, NULL, 0), 6, 0, 0));
+    expect("null numbers: FULL for a frame rate, and none given", is(avsplus_frame_rate(1, NULL, 0), 12, 0, 0) && is(avsplus_frame_rate(0, NULL, 0), 0, 0, 0));
+    expect("null output: FULL, and nothing of nothing", is(avsplus_remove_escapes(stream, 1, NULL, 0), 12, 0, 0) && is(avsplus_remove_escapes(NULL, 0, NULL, 0), 0, 0, 0));
+    expect("null payload: PAYLOAD OUT", avsplus_unsigned_golomb(NULL, 0, 8, 0).status == 14 && avsplus_start(NULL, 0, 9, none).status == 14);
+    expect("null stream: no start code", avsplus_next_start_code(NULL, 0, 0) == 0);
+}
+
 int main(void) {
     filing();
     groups();
     payloads();
     bins();
+    nothing();
     return differing != 0;
 }
