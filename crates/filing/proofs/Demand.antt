@@ -1,7 +1,7 @@
 -- What filing answers, in the grammar's words.
 use Prim.Native.Nat.{ℕ, _≤_, _<_, _*_}
 use mathlib.Core.Path.{_≡_, refl, sym, _∙_, ap}
-use mathlib.Core.Logic.{_↔_, _⊎_, inl, inr, _≢_}
+use mathlib.Core.Logic.{_↔_, inl, inr, _≢_}
 use mathlib.Core.List.{List, [], _∷_, _++_}
 use mathlib.Core.Bool.{cond}
 use lib.Dec.{ltb, eqb}
@@ -20,11 +20,11 @@ use Rattle.layout.specs.declared.Fault.the-variants as fault
 use Rattle.startcode.specs.declared.Kind.{Kind}
 use Rattle.startcode.specs.declared.Kind.the-variants as kind
 use Rattle.grammar.specs.Grammar.{StreamUnit, Reading, Reads, units}
-use Rattle.grammar.specs.Rows.{Row, Placed, placedUnits, rowsFrom, words, rows}
+use Rattle.grammar.specs.Rows.{Placed, placedUnits, rowsFrom, words, rows}
 use Rattle.grammar.specs.Reasons as inside
 use Rattle.grammar.specs.Reasons.{Numbered}
 use Rattle.grammar.specs.Reader.{Stopped, Walk, stopAt, walkOfAny, walk, said, within, walkInto, filingInto}
-use Rattle.grammar.specs.Refusals.{OfBody, OutOfOrder, order, row, BadHeadExtension, short, twice, fields, other, BreaksBody, Breaks, unknown, out-of-place, in-place, Stops, unended, cut, overlap, breaks, Refuses, too-long, no-code, in-unit, RefusesInto, refuses, full}
+use Rattle.grammar.specs.Refusals.{OfBody, OutOfOrder, order, row, BadHeadExtension, short, twice, fields, other, BreaksBody, unknown, out-of-place, in-place, Stops, unended, cut, overlap, breaks, Refuses, too-long, no-code, in-unit, RefusesInto, refuses, full}
 use Rattle.grammar.specs.declared.Reason.{Reason as Inner}
 use Rattle.grammar.specs.declared.Reason.the-variants as inner
 use Rattle.grammar.proofs.Filing.{walked-iff, said-done}

@@ -1,20 +1,19 @@
 -- The laws of the two passes.
-use Prim.Native.Nat.{ℕ, zero, suc, _≤_, _<_, _+_, _*_, _-_}
-use mathlib.Core.Path.{_≡_, refl, sym, _∙_, ap, subst}
+use Prim.Native.Nat.{ℕ, suc, _≤_, _<_, _+_, _*_}
+use mathlib.Core.Path.{_≡_, refl, sym, _∙_, ap}
 use mathlib.Core.List.{List, [], _∷_, _++_, append-assoc, append-nil}
 use mathlib.Core.Bool.{Bool, true, false, cond}
 use lib.ListN.{length, getD, take, drop, set, length-append, length-drop, take-append-drop}
 use lib.Seq.{drop-drop, take-at, drop-at, length-take-le, sets-eq}
 use native.Mathlib.Numerals.{add-one, add-two}
 use native.Mathlib.Omega.{arith}
-use Rattle.answers.specs.Answers.{Outcome}
 use Rattle.answers.specs.Limits.{longestStream}
 use Rattle.answers.specs.Results.{Result, good, bad, mapGood}
 use Rattle.answers.proofs.Results.{not-good, good-same, map-good}
 use Rattle.bits.proofs.Lists.{by-test}
 use Rattle.startcode.specs.Prefix.{begins}
 use Rattle.grammar.specs.Grammar.{bytes}
-use Rattle.grammar.specs.Rows.{Row, Placed, rowLength, rowsFrom, words}
+use Rattle.grammar.specs.Rows.{Placed, rowLength, rowsFrom, words}
 use Rattle.grammar.specs.Reader.{final, Stopped, Walk, stopAt, addUnit, walkOfAny, said}
 use Rattle.grammar.specs.declared.State.{State}
 use Rattle.grammar.specs.declared.State.the-variants.{Start}

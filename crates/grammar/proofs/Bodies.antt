@@ -1,28 +1,26 @@
 -- Reading a body succeeds exactly where the grammar's rule for it holds.
-use Prim.Native.Nat.{ℕ, suc, _≤_, _<_}
+use Prim.Native.Nat.{ℕ}
 use mathlib.Core.Path.{_≡_, refl, sym, _∙_, ap, subst}
-use mathlib.Core.Logic.{_≢_, _⊎_, inl, inr, _↔_}
-use mathlib.Core.List.{List, [], _∷_, _++_}
-use mathlib.Core.Bool.{Bool, true, false, cond, _&&_, _||_}
-use mathlib.Core.Option.{Option, none, some}
+use mathlib.Core.Logic.{_⊎_, inl, inr, _↔_}
+use mathlib.Core.List.{List, _∷_, _++_}
+use mathlib.Core.Bool.{false}
+use mathlib.Core.Option.{Option, some}
 use native.Mathlib.Omega.{arith}
-use borrow.Author.Tests.{eqb-true, eqb-false, eq-eqb, ne-eqb, le-ltb, ltb-false}
-use lib.Dec.{eqb, ltb}
+use borrow.Author.Tests.{eqb-true, eq-eqb, le-ltb}
+use lib.Dec.{eqb}
 use lib.ListN.{length, getD, replicate}
 use Rattle.answers.proofs.Results.{not-good, bind-good}
-use Rattle.bits.specs.Bits.{bitsIn, bitsOf, bitAt, readOn, readAt}
-use Rattle.bits.specs.declared.Bit.{Bit}
+use Rattle.bits.specs.Bits.{bitsIn, bitsOf, bitAt}
 use Rattle.bits.specs.declared.Bit.the-variants as bit
-use Rattle.bits.specs.declared.Read.{Read}
 use Rattle.bits.specs.declared.Read.the-variants.{Value}
-use Rattle.bits.proofs.Lists.{by-test, contrary}
-use Rattle.layout.specs.Reader.{recordOf, numberOf, headerResult, byNumber, notCopyright, extensionResult, isOne, readBit, displayShort, displayOf, plainOf, colouredOf, copyrightOf, Result, _>>_, refuseIf, readValue, recorded, reading, short}
-use Rattle.layout.specs.Extensions.{numbered, HasNumber}
-use Rattle.layout.proofs.NumberLaws.{number-iff}
+use Rattle.bits.proofs.Lists.{by-test}
+use Rattle.layout.specs.Reader.{recordOf, numberOf, headerResult, byNumber, notCopyright, extensionResult, readBit, displayShort, displayOf, plainOf, colouredOf, copyrightOf, refuseIf, readValue}
+use Rattle.layout.specs.Extensions.{numbered}
+use Rattle.layout.proofs.NumberLaws.{number-iff, number-one, number-byte, numbered-by}
 use Rattle.layout.specs.Answers as answers
 use Rattle.layout.specs.Layouts.{fields, leastBytes}
 use Rattle.layout.specs.Obeys.{Fits, AllAllowed, written, Obeys}
-use Rattle.answers.specs.Results.{good, bad, _>>=_}
+use Rattle.answers.specs.Results.{good, _>>=_}
 use Rattle.layout.specs.Records.{headerRecord, plainRecord, colouredRecord, copyrightRecord}
 use Rattle.layout.specs.declared.Layout.{Layout}
 use Rattle.layout.specs.declared.Fault.the-variants as fault
@@ -34,53 +32,24 @@ use Rattle.layout.proofs.AnswerLaws.{short-by}
 use Rattle.layout.proofs.AnswerLaws as laws
 use Rattle.layout.proofs.LayoutLaws.{fits-length, spell, spelled}
 use Rattle.layout.proofs.BreakAnswers.{copyright-made, number-there}
-use Rattle.layout.proofs.ExtensionLaws.{plain-made, coloured-made}
-use Rattle.layout.proofs.ObeyLaws.{then-good, obeys-if, if-obeys}
+use Rattle.layout.proofs.ExtensionLaws.{plain-made, coloured-made, record-if, if-record}
+use Rattle.layout.proofs.ObeyLaws.{then-good, value-good}
 use Rattle.grammar.specs.Grammar.{Extension, IsHeader, IsCopyright, IsDisplay}
-
--- ── results ──
-
-recorded-good : {A : Type 0} (o : Option A) (a : A) → recorded o ≡ good a → o ≡ some a
-recorded-good none a e = not-good e
-recorded-good (some b) a e = let s : b ≡ a = cc in ap some s
-
-read-good : (r : Read) (n : ℕ) → readValue r ≡ good n → r ≡ Value n
-read-good (Value m) n e = let s : m ≡ n = cc in ap Value s
-read-good Rattle.bits.specs.declared.Read.the-variants.Missing n e = not-good e
-read-good Rattle.bits.specs.declared.Read.the-variants.TooWide n e = not-good e
 
 -- ── sequence header ──
 
 -- a record is read exactly where the body obeys with values that make it
 module _ {A : Type 0} (layout : Layout) (make : List ℕ → Option A) (body : List ℕ) where
   pub record-good : (a : A) → (recordOf layout make body ≡ good a) ↔ ((vs : List ℕ) × Obeys layout body vs × (make vs ≡ some a))
-  unfolding recordOf
-  record-good a = (
-    (λ e.
-        let r = bind-good (reading layout body) _ a e in
-        (r .0, obeys-if layout body (r .0) (r .1), recorded-good (make (r .0)) a (r .2))),
-    λ h. rw (if-obeys layout body (h .0) (h .1), h .2),
-  )
+  record-good a = (record-if layout make body a, λ h. if-record layout make body a (h .0) (h .1) (h .2))
 
 pub header-good : (body : List ℕ) (header : SequenceHeader) → (headerResult body ≡ good header) ↔ IsHeader body header
 header-good body header = record-good Header headerRecord body header
 
 -- ── numbers ──
 
-number-none : (n : ℕ) → numberOf [] ≡ Value n → ⊥
-unfolding readAt readOn bitsOf
-number-none n e = let z : _≡_ {A = ℕ} 0 1 = cc in omega arith
-
--- a body with a number has a byte
-pub number-byte : (body : List ℕ) (n : ℕ) → HasNumber body n → body ≢ []
-number-byte body n h empty = number-none n (subst (λ (b : List ℕ). numberOf b ≡ Value n) empty (number-iff body n .1 h))
-
--- and no other number
-pub number-one : (body : List ℕ) (m n : ℕ) → HasNumber body m → HasNumber body n → m ≡ n
-number-one body m n h k = let e = number-iff body m .1 h in let f = number-iff body n .1 k in cc
-
 two-is : (body : List ℕ) (n : ℕ) → numberOf body ≡ Value n → numbered 2 body ≡ false → eqb n 2 ≡ false
-two-is body n e f = by-test (eqb n 2) (λ t. contrary (numbered 2 body) (number-iff body 2 .0 (e ∙ ap Value (eqb-true n 2 t)) .bits) f) (λ g. g)
+two-is body n e f = sym (numbered-by body n 2 (omega arith) (number-iff body n .0 e)) ∙ f
 
 -- ── copyright and opaque extensions ──
 
@@ -106,7 +75,7 @@ module _ (body : List ℕ) (p : Place) (plain : (n : ℕ) → numberOf body ≡ 
   extension-good = (
     (λ h.
         let r = bind-good (readValue (numberOf body)) _ (h .0) (h .1) in
-        let n = read-good (numberOf body) (r .0) (r .1) in
+        let n = value-good (numberOf body) (r .0) (r .1) in
         record {
           some-byte = number-byte body (r .0) (number-iff body (r .0) .0 n);
           copyright = λ four.

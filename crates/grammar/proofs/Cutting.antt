@@ -1,9 +1,8 @@
 -- Cutting a stream at each 00 00 01 gives its units, and only a list of units is cut so.
-use Prim.Native.Nat.{ℕ, suc, _≤_, _<_, _+_}
+use Prim.Native.Nat.{ℕ}
 use mathlib.Core.Path.{_≡_, refl, sym, _∙_, ap}
-use mathlib.Core.Logic.{_≢_, _⊎_, inl, inr}
 use mathlib.Core.List.{List, [], _∷_, _++_, map}
-use mathlib.Core.Bool.{Bool, true, false, cond, _&&_}
+use mathlib.Core.Bool.{Bool, true, false, _&&_}
 use lib.ListN.{drop}
 use lib.Dec.{eqb}
 use borrow.Author.Tests.{eqb-true}
@@ -12,7 +11,7 @@ use Rattle.bits.specs.Lists.{All}
 use Rattle.grammar.specs.Lists.{concatMap}
 use Rattle.grammar.specs.Grammar.{StreamUnit, bytes, Alone}
 use Rattle.startcode.specs.Prefix.{begins}
-use Rattle.grammar.specs.Reader.{Cut, cutHere, noCut, cut}
+use Rattle.grammar.specs.Reader.{noCut, cut}
 
 unfoldable pub No001 : List ℕ → Type 0
 No001 b = (before after : List ℕ) → b ≡ before ++ 0 ∷ 0 ∷ 1 ∷ after → ⊥

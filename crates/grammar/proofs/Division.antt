@@ -1,5 +1,5 @@
 -- The states follow the grammar: a list of units leads from a state to an ending exactly where it goes on a sentence from there.
-use Prim.Native.Nat.{ℕ, suc, _≤_, _<_, _+_}
+use Prim.Native.Nat.{ℕ, _≤_, _<_, _+_}
 use mathlib.Core.Path.{_≡_, refl, sym, _∙_, ap, subst}
 use mathlib.Core.Logic.{_≢_, _⊎_, inl, inr, _↔_}
 use mathlib.Core.List.{List, [], _∷_, _++_, map, append-assoc, map-append}
@@ -13,7 +13,7 @@ use Rattle.layout.specs.declared.Place.{Place}
 use Rattle.layout.specs.declared.Place.the-variants as place
 use Rattle.layout.specs.declared.SequenceHeader.{SequenceHeader}
 use Rattle.grammar.specs.Lists.{AtMostOne, concatMap}
-use Rattle.grammar.specs.Grammar.{StreamUnit, IsKind, Picture, Group, Reading, Nonzero, Rising, Empty, IsEnding, Extension, IsHeader, IsDisplay, PictureExtra, HeadExtra, DisplayUnit, IsSlice, IsPictureHead, IsPicture, FirstIsI, IsGroup, sliceRule}
+use Rattle.grammar.specs.Grammar.{StreamUnit, IsKind, Picture, Group, Nonzero, Rising, Empty, IsEnding, Extension, IsHeader, IsDisplay, PictureExtra, HeadExtra, DisplayUnit, IsSlice, IsPictureHead, IsPicture, FirstIsI, IsGroup, sliceRule}
 use Rattle.grammar.specs.Rows.{Placed, placed, pictureRow, groupRow}
 use Rattle.grammar.specs.Reader.{placeIn, final}
 use Rattle.grammar.specs.declared.SliceRule.{SliceRule}

@@ -1,16 +1,14 @@
 -- A walk gives the units of a stream exactly where it has a reading, and they are that reading's; so are the rows.
-use Prim.Native.Nat.{ℕ, suc, _≤_, _<_, _+_}
+use Prim.Native.Nat.{ℕ, _≤_, _+_}
 use mathlib.Core.Path.{_≡_, refl, sym, _∙_, ap, subst}
-use mathlib.Core.Logic.{_≢_, _⊎_, inl, inr, _↔_}
+use mathlib.Core.Logic.{_≢_, _↔_}
 use mathlib.Core.List.{List, [], _∷_, _++_, map, map-append}
-use mathlib.Core.Bool.{Bool, true, false, cond}
+use mathlib.Core.Bool.{true}
 use lib.ListN.{length}
 use lib.Dec.{ltb}
 use borrow.Author.Tests.{ltb-false, le-ltb}
-use native.Mathlib.Omega.{arith}
 use Rattle.answers.specs.Answers.{done}
 use Rattle.answers.specs.Results.{good, bad}
-use Rattle.bits.specs.Lists.{All}
 use Rattle.bits.proofs.Lists.{by-test}
 use Rattle.answers.proofs.Outcomes.{not-done, done-one}
 use Rattle.answers.proofs.Results.{not-good, good-same, map-good}

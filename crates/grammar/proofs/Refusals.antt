@@ -1,5 +1,5 @@
 -- Each refusal of filing is given exactly when document 01 says.
-use Prim.Native.Nat.{ℕ, suc, _+_, _*_}
+use Prim.Native.Nat.{ℕ, _+_, _*_}
 use mathlib.Core.Path.{_≡_, refl, sym, _∙_, ap}
 use mathlib.Core.Logic.{inl, inr, _↔_}
 use mathlib.Core.List.{List, [], _∷_, _++_, map, map-append, append-assoc, append-nil}
@@ -8,7 +8,7 @@ use native.Mathlib.Omega.{arith}
 use lib.Dec.{ltb}
 use lib.ListN.{length, length-append}
 use borrow.Author.Tests.{ltb-true, ltb-false, lt-ltb, le-ltb}
-use Rattle.answers.specs.Answers.{Outcome, done, refused}
+use Rattle.answers.specs.Answers.{refused}
 use Rattle.answers.specs.Limits.{longestStream}
 use Rattle.answers.specs.Results.{good, bad}
 use Rattle.answers.proofs.Outcomes.{not-refused}
@@ -17,7 +17,7 @@ use Rattle.bits.specs.Lists.{All}
 use Rattle.bits.proofs.Lists.{by-test}
 use Rattle.startcode.specs.Prefix.{begins}
 use Rattle.grammar.specs.Lists.{concatMap}
-use Rattle.grammar.specs.Grammar.{StreamUnit, bytes, Alone, Reading, units}
+use Rattle.grammar.specs.Grammar.{StreamUnit, bytes, Alone, units}
 use Rattle.grammar.specs.Rows.{Placed, placed, placedUnits, rowsFrom}
 use Rattle.grammar.specs.Reasons.{reasonNumber, Numbered}
 use Rattle.grammar.specs.Reader.{cut, final, step, placeIn, Stopped, Walk, stopAt, addUnit, continue, walkFrom, walkOfAny, walk, said, filing, within, walkInto, filingInto}

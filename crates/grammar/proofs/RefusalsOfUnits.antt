@@ -1,12 +1,12 @@
 -- The reader stops at a unit exactly where the unit breaks a rule, and for the first that it breaks.
-use Prim.Native.Nat.{ℕ, _≤_, _+_}
+use Prim.Native.Nat.{ℕ}
 use mathlib.Core.Path.{_≡_, refl, sym, _∙_, ap, subst}
 use mathlib.Core.Logic.{_⊎_, inl, inr, _↔_}
 use mathlib.Core.List.{List, [], _∷_, _++_, append-assoc}
 use mathlib.Core.Bool.{Bool, true, false, _&&_}
 use native.Mathlib.Omega.{arith}
 use lib.Dec.{leb, ltb}
-use borrow.Author.Tests.{ltb-true, ltb-false, leb-true, lt-ltb, le-ltb, le-leb}
+use borrow.Author.Tests.{ltb-true, leb-true, lt-ltb, le-leb}
 use Rattle.answers.specs.Answers.{done}
 use Rattle.answers.specs.Results.{Result, good, bad}
 use Rattle.answers.proofs.Results.{not-bad, good-same}
@@ -25,7 +25,7 @@ use Rattle.layout.specs.declared.Place.the-variants as place
 use Rattle.layout.specs.declared.SequenceHeader.{SequenceHeader}
 use Rattle.layout.proofs.BreakAnswers.{short-iff, long-iff, header-bad, display-bad, extension-bad}
 use Rattle.grammar.specs.Lists.{AtMostOne}
-use Rattle.grammar.specs.Grammar.{StreamUnit, IsKind, Alone, Nonzero, IsPictureHead, DisplayUnit, sliceRule}
+use Rattle.grammar.specs.Grammar.{StreamUnit, IsKind, Alone, Nonzero, DisplayUnit, sliceRule}
 use Rattle.grammar.specs.Reader.{guard, by, sameKind, choose, headerStep, headExtension, pictureExtension, pictureStep, sliceStep, endingStep, table, step}
 use Rattle.grammar.specs.declared.Step.{Step}
 use Rattle.grammar.specs.declared.Step.the-variants.{Go as go, Stop as stop}

@@ -6,7 +6,6 @@ use mathlib.Core.List.{List, [], _∷_, _++_, map, append-assoc, append-nil}
 use mathlib.Core.Bool.{Bool, true, false}
 use mathlib.Core.Option.{some}
 use native.Mathlib.Omega.{arith}
-use Rattle.answers.specs.Answers.{Outcome, done}
 use Rattle.bits.specs.Lists.{All}
 use Rattle.bits.specs.Bits.{bitsIn, bitsOf, readOn, readAt}
 use Rattle.bits.proofs.Lists.{all-append, absent}
@@ -24,7 +23,7 @@ use Rattle.startcode.specs.Kinds.{kindOf}
 use Rattle.startcode.specs.declared.Kind.{Kind}
 use Rattle.startcode.specs.declared.Kind.the-variants as kind
 use Rattle.grammar.specs.Lists.{concatMap}
-use Rattle.grammar.specs.Grammar.{StreamUnit, bytes, IsKind, Alone, Reading, units, Nonzero, IsHeader, PictureExtra, IsPictureHead, DisplayUnit, sliceRule}
+use Rattle.grammar.specs.Grammar.{StreamUnit, bytes, IsKind, Alone, Reading, units, Nonzero, IsHeader, IsPictureHead, DisplayUnit, sliceRule}
 use Rattle.grammar.specs.Reader.{cut, sameKind, placeIn}
 use Rattle.grammar.specs.Rows.{Placed, placed, placedUnits}
 use Rattle.grammar.specs.Refusals.{IsSentence, BeginsSentence, Last, IsHead, InHead, AfterPicture, InGroup, NotGreater}

@@ -1,9 +1,9 @@
 -- A unit is in place exactly where the state's table has its kind.
 use Prim.Native.Nat.{ℕ}
 use mathlib.Core.Path.{_≡_, refl, sym, _∙_, ap, subst}
-use mathlib.Core.Logic.{_⊎_, inl, inr, _↔_}
+use mathlib.Core.Logic.{inl, inr, _↔_}
 use mathlib.Core.List.{List, [], _∷_, _++_, map, map-append, append-nil}
-use mathlib.Core.Bool.{Bool, true, false}
+use mathlib.Core.Bool.{true, false}
 use native.Mathlib.Omega.{arith}
 use Rattle.answers.specs.Answers.{Outcome, done, refused}
 use Rattle.bits.specs.Bits.{bitsIn, bitsOf}
@@ -16,16 +16,16 @@ use Rattle.startcode.specs.declared.Kind.the-variants as kind
 use Rattle.layout.specs.Extensions.{numbered, HasNumber}
 use Rattle.macroblocks.specs.Macroblocks.{slicesTested}
 use Rattle.grammar.specs.Grammar.{StreamUnit, IsKind, Alone, Extension, sliceRule}
-use Rattle.grammar.specs.Reader.{cut, sameKind, choose, byKind, table, step, final}
+use Rattle.grammar.specs.Reader.{cut, sameKind, choose, table, step, final}
 use Rattle.grammar.specs.declared.Step.{Step}
-use Rattle.grammar.specs.declared.Step.the-variants.{Go as go, Stop as stop}
+use Rattle.grammar.specs.declared.Step.the-variants.{Go as go}
 use Rattle.grammar.specs.Rows.{Placed}
 use Rattle.grammar.specs.Refusals.{IsSentence, BeginsSentence, kindsOf, BeginsShape, InPlace}
 use Rattle.grammar.specs.declared.SliceRule.{SliceRule}
 use Rattle.grammar.specs.declared.State.{State}
 use Rattle.grammar.specs.declared.State.the-variants.{Start, Head, Picture as InPicture, Slices, Ended, Closed}
 use Rattle.grammar.proofs.KindLaws.{same-true, kind-or-not}
-use Rattle.grammar.proofs.Bodies.{number-one}
+use Rattle.layout.proofs.NumberLaws.{number-one}
 use Rattle.grammar.proofs.Division.{Goes, sequence, user, extension, display, first-picture, extra, first-slice, next-slice, next-picture, next-sequence, end, edit, end-edit, Accepts}
 use Rattle.grammar.proofs.Steps.{Some, stopped, step-complete}
 use Rattle.grammar.proofs.Sentences.{At, start, more, Left, sentence-left, sentence-from, begins-iff, plainHeader, plain-header, plainUnit, plain-alone, alone-cut, empty, oneByte, one-nonzero}

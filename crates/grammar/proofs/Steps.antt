@@ -2,10 +2,9 @@
 use Prim.Native.Nat.{ℕ, _≤_, _<_, _+_}
 use mathlib.Core.Path.{_≡_, refl, sym, _∙_, ap, subst}
 use mathlib.Core.Logic.{_⊎_, inl, inr, _↔_}
-use mathlib.Core.List.{List, [], _∷_, _++_}
-use mathlib.Core.Bool.{Bool, true, false, cond, _&&_, _||_, not}
+use mathlib.Core.List.{List, [], _∷_}
+use mathlib.Core.Bool.{Bool, true, false, _&&_, not}
 use lib.Dec.{eqb, leb, ltb}
-use lib.ListN.{length, drop}
 use borrow.Author.Tests.{eqb-true, ltb-false, leb-false, le-ltb, lt-leb, not-false}
 use native.Mathlib.Omega.{arith}
 use Rattle.answers.specs.Answers.{Outcome, done, refused}
@@ -21,7 +20,7 @@ use Rattle.layout.specs.declared.Fault.{Fault}
 use Rattle.layout.specs.declared.Fault.the-variants as fault
 use Rattle.layout.specs.declared.Place.the-variants as place
 use Rattle.layout.specs.declared.SequenceHeader.{SequenceHeader}
-use Rattle.grammar.specs.Grammar.{StreamUnit, IsKind, Nonzero, Extension, IsHeader, IsDisplay, PictureExtra, IsSlice, sliceRule}
+use Rattle.grammar.specs.Grammar.{StreamUnit, IsKind, Nonzero, Extension, IsHeader, IsDisplay, sliceRule}
 use Rattle.grammar.specs.Reader.{isNil, guard, sameKind, choose, byKind, by, headerStep, displayStep, headExtension, pictureExtension, pictureStep, sliceStep, endingStep, table, step}
 use Rattle.grammar.specs.declared.Step.{Step}
 use Rattle.grammar.specs.declared.Step.the-variants.{Go as go, Stop as stop}
@@ -31,7 +30,8 @@ use Rattle.grammar.specs.declared.State.the-variants.{Start, Head, Pictu
 use Rattle.grammar.specs.declared.Reason.{Reason}
 use Rattle.grammar.specs.declared.Reason.the-variants as reason
 use Rattle.grammar.proofs.KindLaws.{same-true}
-use Rattle.grammar.proofs.Bodies.{header-good, picture-good, head-good, display-good, display-long, number-byte, number-one}
+use Rattle.layout.proofs.NumberLaws.{number-byte, number-one}
+use Rattle.grammar.proofs.Bodies.{header-good, picture-good, head-good, display-good, display-long}
 use Rattle.grammar.proofs.Division.{number-two, number-not-two, Goes, sequence, user, extension, display, first-picture, extra, first-slice, next-slice, next-picture, next-sequence, end, edit, end-edit}
 
 -- ── tests ──

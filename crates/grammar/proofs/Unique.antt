@@ -1,11 +1,10 @@
 -- Two readings of one stream are the same.
-use Prim.Native.Nat.{ℕ, suc, _≤_, _<_, _+_}
-use mathlib.Core.Path.{_≡_, refl, sym, _∙_, ap, subst}
+use Prim.Native.Nat.{ℕ}
+use mathlib.Core.Path.{_≡_, refl, sym, _∙_}
 use mathlib.Core.Logic.{_≢_, _⊎_, inl, inr}
 use mathlib.Core.List.{List, [], _∷_, _++_, append-assoc, append-nil}
 use native.Mathlib.Omega.{arith}
 use Rattle.answers.specs.Answers.{Outcome, done, refused}
-use Rattle.answers.proofs.Outcomes.{not-done}
 use Rattle.bits.specs.Lists.{All}
 use Rattle.bits.proofs.Lists.{all-map}
 use Rattle.startcode.specs.Kinds.{kindOf}
@@ -13,7 +12,7 @@ use Rattle.startcode.specs.declared.Kind.{Kind}
 use Rattle.startcode.specs.declared.Kind.the-variants as kind
 use Rattle.grammar.specs.Lists.{concatMap}
 use Rattle.grammar.specs.declared.SliceRule.{SliceRule}
-use Rattle.grammar.specs.Grammar.{StreamUnit, bytes, Alone, Picture, Group, Reading, pictureUnits, groupUnits, units, IsPicture, IsGroup, IsEnding, Reads, PictureExtra, HeadExtra, IsSlice, FirstIsI}
+use Rattle.grammar.specs.Grammar.{StreamUnit, bytes, Alone, Picture, Reading, pictureUnits, groupUnits, units, IsPicture, IsGroup, IsEnding, Reads, PictureExtra, HeadExtra, IsSlice, FirstIsI}
 use Rattle.grammar.proofs.KindLaws.{apart}
 use Rattle.grammar.specs.Reader.{sameKind}
 use mathlib.Core.Bool.{false}

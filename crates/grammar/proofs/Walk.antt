@@ -1,12 +1,10 @@
 -- The walk by index: what is left of it at an offset where a unit begins, one unit at a time.
-use Prim.Native.Nat.{ℕ, zero, suc, _≤_, _<_, _+_, _-_, min}
-use mathlib.Core.Path.{_≡_, refl, sym, _∙_, ap, subst}
-use mathlib.Core.Logic.{_≢_}
-use mathlib.Core.List.{List, [], _∷_, _++_}
-use mathlib.Core.Bool.{Bool, true, false, cond}
+use Prim.Native.Nat.{ℕ, suc, _≤_, _<_, _+_, _-_}
+use mathlib.Core.Path.{_≡_, refl, sym, _∙_, ap}
+use mathlib.Core.List.{List, [], _∷_}
+use mathlib.Core.Bool.{true, false, cond}
 use lib.ListN.{length, getD, take, drop, length-drop, length-take}
-use lib.Seq.{drop-cons, drop-drop, drop-length, take-append-seam, take-all}
-use native.Mathlib.Numerals.{add-one}
+use lib.Seq.{drop-cons, drop-drop, drop-length, take-append-seam}
 use native.Mathlib.Omega.{arith}
 use Rattle.answers.specs.Results.{good}
 use Rattle.bits.proofs.Lists.{by-test}
@@ -14,7 +12,7 @@ use Rattle.startcode.specs.Prefix.{begins, before, nextPrefix}
 use Rattle.startcode.proofs.Laws.{before-hit, before-miss, before-le, before-found, search-start}
 use Rattle.grammar.specs.Lists.{concatMap}
 use Rattle.grammar.specs.Grammar.{StreamUnit, bytes}
-use Rattle.grammar.specs.Reader.{Cut, cutHere, noCut, cut, final, isNil, Walk, stopAt, walkFrom}
+use Rattle.grammar.specs.Reader.{Cut, cut, final, isNil, Walk, stopAt, walkFrom}
 use Rattle.grammar.specs.declared.State.{State}
 use Rattle.grammar.specs.declared.Reason.the-variants.{Unended}
 use Rattle.grammar.proofs.Cutting.{cut-law, rebuilt, prefixed, begins-true}

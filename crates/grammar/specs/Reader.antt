@@ -96,7 +96,7 @@ table state.Start u = (kind.SequenceHeader, headerStep (u .body)) ∷ []
 table (state.Head rule display) u =
     (kind.UserData, go (state.Head rule display))
     ∷ (kind.Extension, headExtension rule display (u .body))
-    ∷ (kind.IPicture, pictureStep rule (u .body))
+    ∷ (kind.IPicture, pictureStep rule (u .body))  -- the first picture is B3
     ∷ []
 table (state.Picture rule) u =
     (kind.Slice, sliceStep rule 0 u)

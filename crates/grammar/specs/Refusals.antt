@@ -6,7 +6,7 @@ use mathlib.Core.Logic.{_≢_, _⊎_}
 use mathlib.Core.List.{List, [], _∷_, _++_, map}
 use mathlib.Core.Bool.{true}
 use lib.ListN.{length}
-use Rattle.answers.specs.Answers.{Outcome, done, refused, UNKNOWN}
+use Rattle.answers.specs.Answers.{Outcome, refused, UNKNOWN}
 use Rattle.answers.specs.Limits.{longestStream}
 use Rattle.bits.specs.Lists.{All}
 use Rattle.startcode.specs.Kinds.{kindOf}

@@ -3,13 +3,12 @@ use Prim.Native.Nat.{ℕ, zero, suc, _≤_}
 use mathlib.Core.Path.{_≡_, refl, sym, _∙_, ap}
 use mathlib.Core.Logic.{_↔_}
 use mathlib.Core.List.{List, [], _∷_, map}
-use mathlib.Core.Bool.{true, false}
 use lib.ListN.{length}
 use native.Mathlib.Omega.{arith}
 use Rattle.answers.specs.Answers.{Outcome, done, refused, andThen, OneToOne, NO-ROW}
 use Rattle.answers.specs.Limits.{longestStream}
 use Rattle.answers.specs.Results.{good, bad}
-use Rattle.answers.proofs.Outcomes.{not-done, not-refused, done-one, undone}
+use Rattle.answers.proofs.Outcomes.{not-done, not-refused, undone}
 use Rattle.answers.proofs.Results.{not-good}
 use Rattle.bits.proofs.Lists.{by-test}
 use Rattle.startcode.specs.Prefix.{begins}
@@ -24,7 +23,6 @@ use Rattle.grammar.specs.declared.Reason.the-variants.{NoCode}
 use Rattle.grammar.proofs.Cutting.{chunk, cut-units}
 use Rattle.grammar.proofs.Filing.{unitOf, units-of-placed, walked-iff, said-done}
 use Rattle.grammar.proofs.Refusals.{stopped-iff, said-iff}
-use Rattle.filing.specs.declared.Refusal.{Refusal}
 use Rattle.filing.proofs.Demand.{refusalOf, refusal-undone, walk-good}
 use Rattle.groups.specs.Groups.{GroupRecord, groupSays, GroupOfReading, GroupByReading}
 use Rattle.groups.specs.Reader.{displayIn, groupOf, beginsGroup, groupIn, groupAt}

@@ -1,17 +1,15 @@
 -- What is read in a group of a reading is what the grammar says of it.
-use Prim.Native.Nat.{ℕ, zero, suc, _≤_, _+_}
+use Prim.Native.Nat.{ℕ, zero, suc, _≤_}
 use mathlib.Core.Path.{_≡_, refl, sym, _∙_, ap, subst}
-use mathlib.Core.Logic.{_⊎_, inl, inr, _↔_}
+use mathlib.Core.Logic.{inl, inr, _↔_}
 use mathlib.Core.List.{List, [], _∷_, _++_, append-assoc}
-use mathlib.Core.Bool.{Bool, true, false, cond}
+use mathlib.Core.Bool.{true, false}
 use native.Mathlib.Omega.{arith}
 use lib.ListN.{length}
 use Rattle.answers.specs.Answers.{Outcome, done, refused, NO-ROW}
-use Rattle.answers.specs.Results.{good, bad}
 use Rattle.answers.proofs.Outcomes.{not-done, not-refused, done-one}
 use Rattle.bits.specs.Lists.{All}
 use Rattle.bits.proofs.Lists.{by-test, all-append, all-map, absent}
-use Rattle.startcode.specs.Kinds.{kindOf}
 use Rattle.startcode.specs.declared.Kind.{Kind}
 use Rattle.startcode.specs.declared.Kind.the-variants as kind
 use Rattle.layout.specs.Answers.{Extension, display, copyright, opaque}

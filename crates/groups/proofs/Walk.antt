@@ -8,7 +8,7 @@ use lib.ListN.{length, drop}
 use lib.Seq.{drop-length}
 use borrow.Author.Tests.{ltb-true, ltb-false}
 use native.Mathlib.Omega.{arith}
-use Rattle.answers.specs.Answers.{Outcome, done, refused, andThen, NO-ROW}
+use Rattle.answers.specs.Answers.{refused, NO-ROW}
 use Rattle.bits.proofs.Lists.{by-test}
 use Rattle.startcode.specs.Kinds.{kindOf}
 use Rattle.startcode.specs.Prefix.{begins, nextPrefix}
@@ -17,9 +17,7 @@ use Rattle.layout.specs.Reader.{headerOf}
 use Rattle.grammar.specs.Grammar.{StreamUnit}
 use Rattle.grammar.specs.Reader.{cut}
 use Rattle.grammar.proofs.Walk.{prefix-fits, chunks-cut, chunks-overlap, unitBetween, next-fits, chunks-unit, next-begins}
-use Rattle.groups.specs.Groups.{GroupRecord}
 use Rattle.groups.specs.Reader.{inHead, displayIn, groupOf, beginsGroup, groupIn}
-use Rattle.groups.specs.declared.Display.{Display}
 use Rattle.groups.specs.declared.Display.the-variants.{NotGiven}
 use Rattle.groups.specs.Inside.{unitsIn, unitsFrom, Here}
 

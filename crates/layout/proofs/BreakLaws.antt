@@ -1,5 +1,5 @@
 -- Reading refuses exactly what breaks the layout.
-use Prim.Native.Nat.{ℕ, zero, suc, _+_, _*_, _≤_, _<_}
+use Prim.Native.Nat.{ℕ, _+_, _≤_, _<_}
 use mathlib.Core.Path.{_≡_, refl, sym, ap, _∙_, subst}
 use mathlib.Core.List.{List, [], _∷_, _++_}
 use mathlib.Core.Bool.{Bool, true, false, cond, not}
@@ -11,11 +11,11 @@ use lib.ListN.{length, take, drop, take-append-drop}
 use lib.Seq.{take-at, drop-at}
 use Rattle.answers.proofs.Results.{not-bad, bad-same}
 use Rattle.bits.specs.Lists.{All}
-use Rattle.bits.specs.Bits.{bitsOf, readOn, readAt}
+use Rattle.bits.specs.Bits.{bitsOf, readAt}
 use Rattle.bits.specs.declared.Read.{Read}
 use Rattle.bits.specs.declared.Read.the-variants as read
 use Rattle.bits.proofs.Lists.{by-test, contrary}
-use Rattle.bits.proofs.Laws.{length-bits, read-fits}
+use Rattle.bits.proofs.Laws.{length-bits, never-wide}
 use Rattle.bits.proofs.Main.{missing-exactly}
 use Rattle.layout.specs.Layouts.{nameOf, widthOf, ruleOf, Allowed, byRule, faultAt, fields, bitCount, leastBytes}
 use Rattle.layout.specs.Records.{copyrightRecord}
@@ -44,16 +44,10 @@ use Rattle.layout.proofs.ObeyLaws.{fine-then, both-fine, read-written, 
 
 -- ── a body that is long enough has all its values ──
 
-never-wide : (acc w : ℕ) (l : List ℕ) → readOn acc w l ≡ read.TooWide → ⊥
-unfolding readOn
-never-wide acc zero l e = let z : _≡_ {A = ℕ} 0 1 = cc in omega arith
-never-wide acc (suc w) [] e = let z : _≡_ {A = ℕ} 0 1 = cc in omega arith
-never-wide acc (suc w) (b ∷ l) e = never-wide (acc * 2 + b) w l e
-
 read-there : (l : List ℕ) (at w : ℕ) → w ≤ 32 → at + w ≤ length l → (x : Read) → readAt l at w ≡ x → (v : ℕ) × (readAt l at w ≡ read.Value v)
 read-there l at w n h (read.Value v) e = (v, e)
 read-there l at w n h read.Missing e = let m = missing-exactly l at w .0 e in absurd (omega (arith, m .1))
-read-there l at w n h read.TooWide e = absurd (never-wide 0 w (drop at l) (sym (read-fits l at w n) ∙ e))
+read-there l at w n h read.TooWide e = absurd (never-wide l at w n e)
 
 values-there : (l : List ℕ) (fs : List Field) (at : ℕ) → All (λ (f : Field). widthOf f ≤ 32) fs → at + bitCount fs ≤ length l →
     (vs : List ℕ) × (valuesOf fs at l ≡ good vs)

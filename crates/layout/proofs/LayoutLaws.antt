@@ -3,7 +3,6 @@ use Prim.Native.Nat.{ℕ, zero, suc, _+_, _*_, _^_, _≤_, _<_}
 use mathlib.Core.Path.{_≡_, refl, ap}
 use mathlib.Core.List.{List, [], _∷_}
 use native.Mathlib.Omega.{arith}
-use native.Mathlib.Numerals.{add-one}
 use lib.ListN.{length, getD, drop, drop-of-length-le}
 use lib.Seq.{drop-cons}
 use Rattle.bits.specs.Lists.{All}
@@ -27,10 +26,6 @@ table Header = record { few = omega arith; small = omega arith; whole = refl; na
 table Display = record { few = omega arith; small = omega arith; whole = refl; narrow = omega arith }
 table Coloured = record { few = omega arith; small = omega arith; whole = refl; narrow = omega arith }
 table Copyright = record { few = omega arith; small = omega arith; whole = refl; narrow = omega arith }
-
--- the next field of a list heads what is left of it
-pub heads-rest : {A : Type 0} (l : List A) (i : ℕ) (d : A) → i < length l → drop i l ≡ getD l i d ∷ drop (i + 1) l
-heads-rest l i d h = rw (add-one, drop-cons l i d)
 
 pub rest-count : (fs gs : List Field) (f : Field) → fs ≡ f ∷ gs → bitCount fs ≡ widthOf f + bitCount gs
 rest-count fs gs f e = rw e

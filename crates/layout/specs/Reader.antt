@@ -8,11 +8,10 @@ use lib.Dec.{eqb, leb, ltb}
 use Rattle.answers.specs.Answers.{Outcome, done, refused}
 use Rattle.answers.specs.Results as results
 use Rattle.answers.specs.Results.{good, bad, _>>=_}
-use Rattle.bits.specs.Bits.{bitsOf, bitAt, readAt}
+use Rattle.bits.specs.Bits.{bitsOf, bitAt, readAt, readOr}
 use Rattle.bits.specs.declared.Bit.{Bit}
 use Rattle.bits.specs.declared.Bit.the-variants as bit
 use Rattle.bits.specs.declared.Read.{Read}
-use Rattle.bits.specs.declared.Read.the-variants as read
 use Rattle.layout.specs.Layouts.{widthOf, ruleOf, faultAt, fields, bitCount, leastBytes}
 use Rattle.layout.specs.Records.{headerRecord, plainRecord, colouredRecord, copyrightRecord}
 use Rattle.layout.specs.Answers.{faultNumber, Extension, display, copyright, opaque}
@@ -54,9 +53,7 @@ both (Faulty fault) verdict = Faulty fault
 
 -- bits that are not there are SHORT; no field is wider than a read
 abbrev pub readValue : Read → Result ℕ
-readValue (read.Value n) = good n
-readValue read.Missing = bad Short
-readValue read.TooWide = bad Short
+readValue r = readOr good (bad Short) r
 
 -- values that are not there are SHORT
 abbrev pub recorded : {A : Type 0} → Option A → Result A

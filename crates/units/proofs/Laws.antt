@@ -1,18 +1,15 @@
 -- The laws that the function of one unit goes by.
-use Prim.Native.Nat.{ℕ, zero, suc, _≤_, _<_, _+_, _-_}
+use Prim.Native.Nat.{ℕ, suc, _≤_, _<_, _+_, _-_}
 use mathlib.Core.Path.{_≡_, refl, sym, _∙_, ap}
 use mathlib.Core.List.{List, [], _∷_, _++_}
-use mathlib.Core.Bool.{Bool, true, false, cond}
-use lib.Dec.{eqb}
-use lib.ListN.{length, getD, take, drop, length-append}
+use mathlib.Core.Bool.{true, false, cond}
+use lib.ListN.{length, getD, take}
 use lib.Seq.{take-suc, take-length}
 use borrow.Author.Tests.{ne-eqb, lt-ltb, le-ltb, le-leb, lt-leb}
-use native.Mathlib.Numerals.{add-one}
 use native.Mathlib.Omega.{arith}
-use Rattle.answers.specs.Answers.{Outcome, done, refused}
+use Rattle.answers.specs.Answers.{done}
 use Rattle.layout.specs.Extensions.{numbered}
 use Rattle.layout.specs.Reader.{displayOf, extensionResult, byNumber, allZero}
-use Rattle.layout.specs.declared.Place.{Place}
 use Rattle.layout.specs.declared.Place.the-variants as place
 use Rattle.layout.proofs.NumberLaws.{number-iff}
 use Rattle.startcode.specs.Kinds.{kindOf}
@@ -25,7 +22,6 @@ use Rattle.grammar.specs.declared.SliceRule.{SliceRule}
 use Rattle.grammar.specs.declared.State.{State}
 use Rattle.grammar.specs.declared.State.the-variants.{Start, Head, Picture as InPicture, Slices, Ended, Closed}
 use Rattle.grammar.specs.declared.Reason.the-variants.{SliceOrder, SliceRow}
-use Rattle.grammar.specs.declared.Step.{Step}
 use Rattle.grammar.specs.declared.Step.the-variants.{Go as go, Stop as stop}
 use Rattle.grammar.proofs.Division.{number-two}
 use Rattle.units.specs.Inside.{extensionPlace}

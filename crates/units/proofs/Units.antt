@@ -1,11 +1,11 @@
 -- The laws of the unit at an offset: what it is, and what it leaves of the walk.
-use Prim.Native.Nat.{ℕ, zero, suc, _≤_, _<_, _+_, _-_}
+use Prim.Native.Nat.{ℕ, suc, _≤_, _<_, _+_, _-_}
 use mathlib.Core.Path.{_≡_, refl, sym, _∙_, ap, subst}
-use mathlib.Core.List.{List, [], _∷_, _++_}
+use mathlib.Core.List.{List, [], _∷_}
 use mathlib.Core.Bool.{Bool, true, false, cond}
 use lib.Dec.{eqb}
 use lib.ListN
-use lib.ListN.{length, getD, take, drop, length-take, length-drop}
+use lib.ListN.{length, getD, drop, length-take, length-drop}
 use borrow.Author.Tests.{eqb-true, eqb-false}
 use native.Mathlib.Omega.{arith}
 use Rattle.bits.proofs.Lists.{by-test}
@@ -15,7 +15,6 @@ use Rattle.grammar.specs.Grammar.{StreamUnit, bytes}
 use Rattle.grammar.specs.Rows.{Placed, placed, rowLength, isWhole, kept, trimmed}
 use Rattle.grammar.specs.Reader.{cut, step, placeIn, Walk, stopAt, continue, addUnit, walkFrom}
 use Rattle.grammar.specs.declared.State.{State}
-use Rattle.grammar.specs.declared.Reason.{Reason}
 use Rattle.grammar.specs.declared.Reason.the-variants as reason
 use Rattle.grammar.specs.declared.Step.{Step}
 use Rattle.grammar.specs.declared.Step.the-variants.{Go as go, Stop as stop}

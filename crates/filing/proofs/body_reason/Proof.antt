@@ -3,7 +3,6 @@ use borrow.Author.Needs.{needs}
 use Rattle.layout.specs.Answers.{faultNumber}
 use Rattle.filing.proofs.body_reason.Statement.{statement}
 use Rattle.filing.proofs.body_reason.Tie as tie
-use Rattle.filing.proofs.body_reason.Reads as reads
 
 enum-told : tie.Need-enum-told
 enum-told c = search needs

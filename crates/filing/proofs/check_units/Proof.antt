@@ -1,15 +1,12 @@
 -- What is counted and what is left make the whole count.
-use Prim.Native.Nat.{ℕ, _+_, _-_, _≤_, _<_}
-use mathlib.Core.Path.{_≡_, refl, sym, ap, _∙_, subst}
-use mathlib.Core.List.{List, [], _∷_}
-use mathlib.Core.Bool.{true, false}
+use Prim.Native.Nat.{ℕ, _-_}
+use mathlib.Core.Path.{_≡_, sym, ap, _∙_, subst}
+use mathlib.Core.List.{List}
 use native.Mathlib.Omega.{arith}
 use borrow.Author.Needs.{needs}
 use borrow.Author.Tests.{not-true, not-false}
-use lib.ListN.{length, drop}
-use Rattle.grammar.specs.declared.State.{State}
+use lib.ListN.{length}
 use Rattle.units.specs.declared.UnitAnswer.{UnitAnswer}
-use Rattle.units.specs.declared.UnitAnswer.the-variants as answer
 use Rattle.units.proofs.Units.{Advanced, Left, what-is-left}
 use Rattle.filing.proofs.Passes.{Checking, checking-start, checking-next, end-good, end-unended, counted, no-code}
 use Rattle.filing.proofs.check_units.Statement.{statement}

@@ -1,5 +1,5 @@
 -- The order of the tests, and then the second pass.
-use Prim.Native.Nat.{ℕ, _+_, _*_, _≤_, _<_}
+use Prim.Native.Nat.{ℕ}
 use mathlib.Core.Path.{_≡_, refl, sym, ap, _∙_}
 use mathlib.Core.List.{List}
 use native.Mathlib.Omega.{arith}
@@ -8,8 +8,7 @@ use lib.ListN.{length}
 use Rattle.answers.specs.Answers.{Outcome, done, refused}
 use Rattle.answers.specs.Results.{good, bad}
 use Rattle.grammar.specs.Rows.{Placed, rowsFrom}
-use Rattle.grammar.specs.Reader.{Stopped, Walk, walk, said}
-use Rattle.grammar.specs.Reasons as inside
+use Rattle.grammar.specs.Reader.{Walk, walk, said}
 use Rattle.grammar.proofs.Filing.{said-done}
 use Rattle.grammar.proofs.Refusals.{said-refused}
 use Rattle.filing.specs.Filing.{wordsAfter, checkedSays}

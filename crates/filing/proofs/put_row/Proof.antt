@@ -1,9 +1,9 @@
 -- Three words are stored in their places.
-use mathlib.Core.Path.{_≡_, refl, sym, ap, _∙_, subst}
+use mathlib.Core.Path.{ap, _∙_}
 use native.Mathlib.Omega.{arith}
 use borrow.Author.Needs.{needs}
 use Prim.Native.Nat.{ℕ, _+_, _*_}
-use mathlib.Core.List.{List, _∷_, _++_}
+use mathlib.Core.List.{_∷_, _++_}
 use lib.ListN.{set, take, drop, length-set}
 use Rattle.filing.proofs.Passes.{three-set}
 use Rattle.filing.proofs.put_row.Statement.{statement}

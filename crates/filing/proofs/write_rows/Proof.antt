@@ -1,12 +1,11 @@
 -- The rows that are written and those that are left make the whole.
-use Prim.Native.Nat.{ℕ, _+_, _-_, _*_, _≤_, _<_}
-use mathlib.Core.Path.{_≡_, refl, sym, ap, _∙_, subst}
-use mathlib.Core.List.{List, [], _∷_}
+use Prim.Native.Nat.{ℕ, _+_, _-_, _*_, _≤_}
+use mathlib.Core.Path.{_≡_, sym, _∙_, subst}
+use mathlib.Core.List.{List}
 use native.Mathlib.Omega.{arith}
 use borrow.Author.Needs.{needs}
-use lib.ListN.{length, drop}
+use lib.ListN.{length}
 use Rattle.answers.proofs.Results.{not-bad}
-use Rattle.grammar.specs.declared.State.{State}
 use Rattle.units.specs.declared.UnitAnswer.{UnitAnswer}
 use Rattle.units.proofs.Units.{Advanced, Left, what-is-left}
 use Rattle.filing.proofs.Passes.{Writing, writing-start, writing-room, writing-next, writing-end}

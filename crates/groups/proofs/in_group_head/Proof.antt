@@ -1,5 +1,5 @@
 -- By the kind of its code.
-use mathlib.Core.Path.{_≡_, refl, sym, ap, _∙_}
+use mathlib.Core.Path.{refl, sym, ap, _∙_}
 use borrow.Author.Needs.{needs}
 use Rattle.startcode.specs.Kinds.{kindSays}
 use Rattle.groups.proofs.in_group_head.Statement.{statement}

@@ -1,6 +1,6 @@
 -- The table is the layout's list of fields.
 use Rattle.layout.specs.Layouts.{displayFields}
-use Rattle.layout.proofs.LayoutLaws.{heads-rest}
+use Rattle.bits.proofs.Lists.{at-head}
 use borrow.Author.Needs.{needs}
 use Rattle.layout.proofs.display_field.Statement.{statement}
 use Rattle.layout.proofs.display_field.Tie as tie
@@ -12,7 +12,7 @@ array-copy-out-result : tie.Need-array-copy-out-result
 array-copy-out-result c = search needs
 
 returns : tie.Need-returns
-returns c = heads-rest displayFields (c .before .args .i) _ (c .before .pre)
+returns c = at-head displayFields (c .before .args .i) _ (c .before .pre)
 
 pub display-field-spec : {M : Type 1} → statement M
 display-field-spec = tie.close (tie.spec mul-result array-copy-out-result returns)

@@ -9,7 +9,8 @@ use Rattle.layout.specs.Layouts.{fields, bitCount}
 use Rattle.layout.specs.Reader.{judge}
 use Rattle.layout.specs.declared.Field.{Field}
 use Rattle.layout.specs.declared.Verdict.the-variants.{Faulty}
-use Rattle.layout.proofs.LayoutLaws.{table, heads-rest, rest-count, fits-length}
+use Rattle.bits.proofs.Lists.{at-head}
+use Rattle.layout.proofs.LayoutLaws.{table, rest-count, fits-length}
 use Rattle.layout.proofs.ReadingLaws.{judge-pass, judge-fail, judge-end}
 use borrow.Author.Needs.{needs}
 use Rattle.layout.proofs.judge_fields.Statement.{statement}
@@ -40,7 +41,7 @@ module _ (c : tie.After-field-at Inv-loop μ-loop) where
   value-there = omega (arith, fits-length fs vs (entry .pre))
 
   value-heads : drop (point .loop .i) vs ≡ getD vs (point .loop .i) 0 ∷ drop (point .loop .i + 1) vs
-  value-heads = heads-rest vs (point .loop .i) 0 value-there
+  value-heads = at-head vs (point .loop .i) 0 value-there
 
   counted : bitCount (drop (point .loop .i) fs) ≡ c .field-at .result .1 + bitCount (drop (point .loop .i + 1) fs)
   counted = rest-count (drop (point .loop .i) fs) (drop (point .loop .i + 1) fs) (c .field-at .result) (c .field-at .ensures)

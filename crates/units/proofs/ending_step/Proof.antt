@@ -1,9 +1,4 @@
 -- An ending's body is empty, or it is STUFFING.
-use Prim.Native.Nat.{ℕ}
-use mathlib.Core.Path.{_≡_, refl, sym}
-use mathlib.Core.List.{List, [], _∷_}
-use native.Mathlib.Omega.{arith}
-use lib.ListN.{length}
 use Rattle.units.proofs.Laws.{nil-length, not-nil-length}
 use Rattle.units.proofs.ending_step.Statement.{statement}
 use Rattle.units.proofs.ending_step.Tie as tie

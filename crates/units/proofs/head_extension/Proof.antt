@@ -1,12 +1,9 @@
 -- The tests in order, and then the reading.
-use Prim.Native.Nat.{ℕ}
-use mathlib.Core.Path.{_≡_, refl, sym, ap, _∙_}
-use mathlib.Core.List.{List}
-use mathlib.Core.Bool.{true, false}
+use mathlib.Core.Path.{_≡_, sym, ap, _∙_}
+use mathlib.Core.Bool.{true}
 use borrow.Author.Needs.{needs}
 use borrow.Author.Tests.{not-true, not-false}
 use Rattle.layout.specs.Extensions.{numbered}
-use Rattle.layout.specs.Reader.{displayShort, extensionResult, displayOf}
 use Rattle.grammar.specs.Reader.{by}
 use Rattle.grammar.specs.declared.State.the-variants.{Head}
 use Rattle.units.proofs.Laws.{head-display}

@@ -1,5 +1,5 @@
 -- A body with no byte but 00 is SHORT.
-use mathlib.Core.Path.{_≡_, refl, sym, ap, _∙_}
+use mathlib.Core.Path.{sym, _∙_}
 use borrow.Author.Needs.{needs}
 use Rattle.units.proofs.picture_step.Statement.{statement}
 use Rattle.units.proofs.picture_step.Tie as tie

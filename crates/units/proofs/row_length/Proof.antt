@@ -1,5 +1,5 @@
 -- The whole body, or without its trailing zero bytes.
-use mathlib.Core.Path.{_≡_, sym, _∙_}
+use mathlib.Core.Path.{sym, _∙_}
 use borrow.Author.Needs.{needs}
 use Rattle.units.proofs.row_length.Statement.{statement}
 use Rattle.units.proofs.row_length.Tie as tie

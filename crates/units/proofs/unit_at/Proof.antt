@@ -1,15 +1,14 @@
 -- The tests in order, and then the unit up to the next prefix.
-use Prim.Native.Nat.{ℕ, _+_, _-_, _≤_, _<_}
-use mathlib.Core.Path.{_≡_, refl, sym, ap, _∙_}
-use mathlib.Core.List.{List}
+use Prim.Native.Nat.{ℕ, _+_, _≤_, _<_}
+use mathlib.Core.Path.{_≡_, sym, ap, _∙_}
 use mathlib.Core.Bool.{true, false}
 use native.Mathlib.Omega.{arith}
 use borrow.Author.Needs.{needs}
 use borrow.Author.Tests.{not-true, not-false}
-use lib.ListN.{length, getD, take, drop}
-use Rattle.startcode.specs.Prefix.{begins, nextPrefix}
+use lib.ListN.{length, drop}
+use Rattle.startcode.specs.Prefix.{begins}
 use Rattle.grammar.proofs.Walk.{prefix-fits, unitBetween, next-fits}
-use Rattle.units.specs.Reader.{unitFrom, unitAt}
+use Rattle.units.specs.Reader.{unitFrom}
 use Rattle.units.proofs.Units.{unit-none, unit-cut, unit-overlap, unit-is}
 use Rattle.units.proofs.unit_at.Statement.{statement}
 use Rattle.units.proofs.unit_at.Tie as tie

@@ -1,11 +1,10 @@
 -- The kind is found once: it chooses the step and the row's length.
 use Prim.Native.Nat.{ℕ}
 use mathlib.Core.Path.{_≡_, sym, ap, _∙_}
-use mathlib.Core.List.{List, []}
 use mathlib.Core.Bool.{cond}
 use borrow.Author.Needs.{needs}
 use lib.ListN.{length}
-use Rattle.answers.specs.Answers.{Outcome, done, refused, UNKNOWN}
+use Rattle.answers.specs.Answers.{Outcome, done}
 use Rattle.startcode.specs.Kinds.{kindOf, kindSays}
 use Rattle.startcode.specs.declared.Kind.{Kind}
 use Rattle.layout.specs.declared.Place.{Place}
@@ -14,7 +13,6 @@ use Rattle.grammar.specs.Rows.{placed, trimmed, wholeBody, rowLength}
 use Rattle.grammar.specs.Reader.{choose, table, byKind, step, placeIn}
 use Rattle.grammar.specs.declared.Step.{Step}
 use Rattle.units.specs.Reader.{nextOf, unitFrom}
-use Rattle.units.specs.declared.UnitAnswer.{UnitAnswer}
 use Rattle.units.specs.declared.UnitAnswer.the-variants as answer
 use Rattle.units.proofs.Laws.{length-same}
 use Rattle.units.proofs.unit_of.Statement.{statement}
