@@ -1,5 +1,4 @@
--- What is computed inside: a value, or why there is none. Document 01's number for it comes in where an answer is said.
-use mathlib.Core.Path.{_≡_}
+-- A value, or why there is none: what layers hand each other. Document 01's number for it comes in where an answer is said.
 
 infixl 10 _>>=_
 pub data Result (E A : Type 0) : Type 0 where

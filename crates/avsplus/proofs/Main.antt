@@ -8,7 +8,7 @@ use native.Mathlib.Omega.{arith}
 use lib.Dec.{eqb, leb→le}
 use lib.IntN.{ℤ, pos, negsuc, negℤ}
 use Rattle.answers.specs.Answers.{Outcome, done, refused, mapDone}
-use Rattle.answers.proofs.Outcomes.{not-done, done-one}
+use Rattle.answers.proofs.Outcomes.{mapped}
 use Rattle.payload.specs.Golomb.{Numbered, standsFor, withSign}
 use Rattle.payload.specs.Reader.{golomb, signedGolomb}
 use Rattle.payload.proofs.GolombLaws.{golomb-bound}
@@ -45,17 +45,12 @@ mark-far : 2147483648 ≤ below noSignedNumber
 unfolding below
 mark-far = leb→le 2147483648 (below noSignedNumber) tt
 
--- the unsigned number behind a signed one
-unsigned : (o : Outcome (Numbered ℕ)) (m : Numbered ℤ) → mapDone withSign o ≡ done m → (n : Numbered ℕ) × (o ≡ done n) × (standsFor (n .number) ≡ m .number)
-unsigned (done n) m e = (n, refl, ap (λ k. k .number) (done-one e))
-unsigned (refused number carried) m e = not-done e
-
 pub signed-marked : (bytes : List ℕ) (bits place : ℕ) (m : Numbered ℤ) → signedGolomb bytes bits place ≡ done m → m .number ≢ noSignedNumber
 unfolding signedGolomb
 signed-marked bytes bits place m e z =
-    let u = unsigned (golomb bytes bits place) m e in
+    let u = mapped withSign (golomb bytes bits place) m e in
     let h = signed-small (u .0 .number) (golomb-bound bytes bits place (u .0) (u .1)) in
-    let k = ap below (u .2 ∙ z) in
+    let k = ap below (ap (λ (n : Numbered ℤ). n .number) (u .2) ∙ z) in
     let far = mark-far in
     omega arith
 

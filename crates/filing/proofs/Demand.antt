@@ -28,7 +28,7 @@ use Rattle.grammar.specs.Refusals.{OfBody, OutOfOrder, order, row, BadHeadExten
 use Rattle.grammar.specs.declared.Reason.{Reason as Inner}
 use Rattle.grammar.specs.declared.Reason.the-variants as inner
 use Rattle.grammar.proofs.Filing.{walked-iff, said-done}
-use Rattle.grammar.proofs.Refusals.{said-refused, said-iff, into-stopped-iff}
+use Rattle.grammar.proofs.Refusals.{said-refused, said-iff, stopped-iff, into-stopped-iff}
 use Rattle.grammar.proofs.RowLengths.{rows-length, units-length}
 use Rattle.grammar.proofs.Unique.{same-reading}
 use Rattle.filing.specs.Filing.{reasonNumber, totals, wordsAfter, filingSays, checkedSays, ReadingOf, FiledByReading}
@@ -291,3 +291,17 @@ settled s lent after r w e says kept =
     let a = says ∙ ap (said totals) (sym e) in
     let k = kept ∙ ap (λ (x : Walk). wordsAfter (said (rowsFrom 0) x) lent) (sym e) in
     (a, (k, demand s lent after r a k))
+
+-- ── with no row written ──
+
+pub counted-iff : (s : List ℕ) (n : ℕ) → (said length (walk s) ≡ done n) ↔ ((length s ≤ longestStream) × ReadingOf s n)
+counted-iff s n = (
+  (λ e.
+      let d = said-done length (walk s) n e in
+      let k = walked-iff s (d .0) .0 (d .1) in
+      (k .0, (k .1 .0, k .1 .1, sym (units-length (k .1 .0)) ∙ ap length (sym (k .1 .2)) ∙ d .2))),
+  λ h. ap (said length) (walked-iff s (placedUnits (h .1 .0)) .1 (h .0, (h .1 .0, h .1 .1, refl))) ∙ ap done (units-length (h .1 .0) ∙ h .1 .2),
+)
+
+pub uncounted-iff : (s : List ℕ) (n at : ℕ) → (said length (walk s) ≡ refused n (at ∷ [])) ↔ Numbered (Refuses s) n at
+uncounted-iff s = said-iff length (walk s) (Refuses s) (stopped-iff s)

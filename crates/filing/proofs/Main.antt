@@ -1,12 +1,15 @@
 -- What is proved of filing beyond the contracts of the functions.
-use Prim.Native.Nat.{ℕ}
+use Prim.Native.Nat.{ℕ, _≤_}
 use mathlib.Core.Path.{_≡_}
-use mathlib.Core.List.{List}
+use mathlib.Core.List.{List, [], _∷_}
 use mathlib.Core.Logic.{_↔_}
-use Rattle.answers.specs.Answers.{OneToOne}
+use lib.ListN.{length}
+use Rattle.answers.specs.Answers.{done, refused, OneToOne}
+use Rattle.answers.specs.Limits.{longestStream}
 use Rattle.grammar.specs.Reasons.{Numbered}
-use Rattle.grammar.specs.Refusals.{RefusesInto}
-use Rattle.filing.specs.Filing.{reasonNumber, filingSays, checkedSays}
+use Rattle.grammar.specs.Refusals.{Refuses, RefusesInto}
+use Rattle.grammar.specs.Reader.{walk, said}
+use Rattle.filing.specs.Filing.{reasonNumber, filingSays, checkedSays, ReadingOf}
 use Rattle.filing.specs.Reader.{filed}
 use Rattle.filing.specs.declared.FilingAnswer.{FilingAnswer}
 use Rattle.filing.specs.declared.FilingAnswer.the-variants as answer
@@ -24,3 +27,11 @@ checked-one-to-one = demand.checked-one-to-one
 pub refused-by : (stream : List ℕ) (lent : ℕ) (r : FilingAnswer) → filingSays r ≡ filed stream lent →
     (why : Refusal) → (r ≡ answer.Refused why) ↔ Numbered (RefusesInto stream lent) (reasonNumber (why .reason)) (why .place)
 refused-by = demand.refused-by
+
+-- `check` answers n units exactly where the stream is within the limit and has a reading of n units, and refuses it exactly where document 01
+-- does, rows aside.
+pub counted-iff : (stream : List ℕ) (n : ℕ) → (said length (walk stream) ≡ done n) ↔ ((length stream ≤ longestStream) × ReadingOf stream n)
+counted-iff = demand.counted-iff
+
+pub uncounted-iff : (stream : List ℕ) (n at : ℕ) → (said length (walk stream) ≡ refused n (at ∷ [])) ↔ Numbered (Refuses stream) n at
+uncounted-iff = demand.uncounted-iff

@@ -32,7 +32,7 @@ use Rattle.layout.proofs.AnswerLaws.{short-by}
 use Rattle.layout.proofs.AnswerLaws as laws
 use Rattle.layout.proofs.LayoutLaws.{fits-length, spell, spelled}
 use Rattle.layout.proofs.BreakAnswers.{copyright-made, number-there}
-use Rattle.layout.proofs.ExtensionLaws.{plain-made, coloured-made, record-if, if-record}
+use Rattle.layout.proofs.ExtensionLaws.{plain-made, coloured-made, display-bit, coloured-bit, record-if, if-record}
 use Rattle.layout.proofs.ObeyLaws.{then-good, value-good}
 use Rattle.grammar.specs.Grammar.{Extension, IsHeader, IsCopyright, IsDisplay}
 
@@ -117,27 +117,11 @@ coloured-good : (body : List ℕ) → ((x : answers.Extension) × (colouredOf bo
 unfolding colouredOf
 coloured-good body = layout-good Coloured colouredRecord answers.display body coloured-made
 
-plain-bit : (body vs : List ℕ) → Obeys Display body vs → bitAt (bitsOf body) 8 ≡ bit.Is 0
-unfolding fields written bitAt bitsIn AllAllowed
-plain-bit body vs h =
-    let e = spelled 8 vs (fits-length (fields Display) vs (h .fits)) in
-    let a : AllAllowed (fields Display) (spell 8 0 vs) = subst (AllAllowed (fields Display)) e (h .allowed) in
-    let zero-bit : getD vs 3 0 ≡ 0 = a .1 .1 .1 .0 in
-    ap (λ (l : List ℕ). bitAt l 8) (h .bits ∙ ap (λ (l : List ℕ). written (fields Display) l ++ (1 ∷ replicate (h .zeros) 0)) e) ∙ rw zero-bit
-
-coloured-bit : (body vs : List ℕ) → Obeys Coloured body vs → bitAt (bitsOf body) 8 ≡ bit.Is 1
-unfolding fields written bitAt bitsIn AllAllowed
-coloured-bit body vs h =
-    let e = spelled 11 vs (fits-length (fields Coloured) vs (h .fits)) in
-    let a : AllAllowed (fields Coloured) (spell 11 0 vs) = subst (AllAllowed (fields Coloured)) e (h .allowed) in
-    let one-bit : getD vs 3 0 ≡ 1 = a .1 .1 .1 .0 in
-    ap (λ (l : List ℕ). bitAt l 8) (h .bits ∙ ap (λ (l : List ℕ). written (fields Coloured) l ++ (1 ∷ replicate (h .zeros) 0)) e) ∙ rw one-bit
-
 -- by the colour bit, the one layout or the other
 plain-display : (body vs : List ℕ) → Obeys Display body vs → displayOf body ≡ plainOf body
 unfolding leastBytes
 plain-display body vs h =
-    let b = plain-bit body vs h in
+    let b = display-bit body vs h in
     laws.display-long body (bit.Is 0) (short-by body (bit.Is 0) (h .long) b) b
 
 coloured-display : (body vs : List ℕ) → Obeys Coloured body vs → displayOf body ≡ colouredOf body

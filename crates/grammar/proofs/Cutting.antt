@@ -8,6 +8,7 @@ use lib.Dec.{eqb}
 use borrow.Author.Tests.{eqb-true}
 use native.Mathlib.Omega.{arith}
 use Rattle.bits.specs.Lists.{All}
+use Rattle.bits.proofs.Lists.{and-true}
 use Rattle.grammar.specs.Lists.{concatMap}
 use Rattle.grammar.specs.Grammar.{StreamUnit, bytes, Alone}
 use Rattle.startcode.specs.Prefix.{begins}
@@ -29,10 +30,6 @@ chunk-alone u n [] s e = refl
 chunk-alone u n (a ∷ []) s e = cc
 chunk-alone u n (a ∷ b ∷ []) s e = cc
 chunk-alone u n (a ∷ b ∷ c ∷ p) s e = absurd (n p s (cc))
-
-and-true : (a b : Bool) → a && b ≡ true → (a ≡ true) × (b ≡ true)
-and-true true b e = (refl, e)
-and-true false b e = (e, cc)
 
 pub begins-true : (l : List ℕ) → begins l ≡ true → (r : List ℕ) × (l ≡ 0 ∷ 0 ∷ 1 ∷ r)
 unfolding begins

@@ -1,17 +1,21 @@
 -- Kinds of unit are told apart.
 use Prim.Native.Nat.{ℕ}
-use mathlib.Core.Path.{_≡_, refl, sym, _∙_, ap}
+use mathlib.Core.Path.{_≡_, refl, sym, _∙_, ap, subst}
 use mathlib.Core.Logic.{_⊎_, inl, inr}
 use mathlib.Core.List.{List, [], _∷_}
-use mathlib.Core.Bool.{true, false, cond, _&&_}
+use mathlib.Core.Bool.{true, false, cond, _&&_, not}
+use denote.Enum.Declared
+use mir.Val.{hasKey}
+use types.Run.{OneOf, miss}
 use native.Mathlib.Omega.{arith}
 use borrow.Author.Tests.{eqb-true, eq-eqb}
-use lib.Dec.{leb, eqb}
+use lib.Dec.{T, leb, eqb}
 use Rattle.answers.specs.Answers.{Outcome, done, refused, UNKNOWN}
 use Rattle.answers.proofs.Outcomes.{undone, done-one}
 use Rattle.bits.proofs.Lists.{by-test}
 use Rattle.startcode.specs.Kinds.{Codes, kindIn, kinds, kindOf}
 use Rattle.startcode.specs.declared.Kind.{Kind}
+use Rattle.startcode.proofs.Kind as Declaration
 use Rattle.startcode.specs.declared.Kind.the-variants as kind
 use Rattle.grammar.specs.Reader.{kindIndex, sameKind}
 
@@ -41,6 +45,22 @@ same-true j k t = undone kindIndex kindAt index-undone j k (eqb-true (kindIndex 
 
 pub true-same : (j k : Kind) → j ≡ k → sameKind j k ≡ true
 true-same j k e = eq-eqb (kindIndex j) (kindIndex k) (ap kindIndex e)
+
+-- ── the kinds of a `match` ──
+
+tag-is : (k : Kind) → Declared.tagOf Declaration.the-type k ≡ kindIndex k
+tag-is kind.Slice = refl
+tag-is kind.SequenceHeader = refl
+tag-is kind.SequenceEnd = refl
+tag-is kind.UserData = refl
+tag-is kind.IPicture = refl
+tag-is kind.Extension = refl
+tag-is kind.PBPicture = refl
+tag-is kind.EditCode = refl
+
+-- where a `match` has come to its last arm, the kind is none of those before
+pub last-arm : (tags : List ℕ) (j k : Kind) → OneOf tags (Declared.tagOf Declaration.the-type k) → T (not (hasKey tags (kindIndex j))) → sameKind k j ≡ false
+last-arm tags j k o n = by-test (sameKind k j) (λ t. absurd (miss tags (kindIndex j) n (subst (OneOf tags) (ap (Declared.tagOf Declaration.the-type) (same-true k j t) ∙ tag-is j) o))) (λ f. f)
 
 -- no unit has two kinds
 pub apart : {P : Type 0} {o : Outcome Kind} (j k : Kind) → sameKind j k ≡ false → o ≡ done j → o ≡ done k → P

@@ -2,19 +2,20 @@
 use Prim.Native.Nat.{ℕ, _≤_}
 use mathlib.Core.Path.{_≡_}
 use mathlib.Core.Logic.{_↔_}
-use mathlib.Core.List.{List, [], _∷_, map}
+use mathlib.Core.List.{List, [], _∷_, _++_, map}
 use lib.ListN.{length}
 use Rattle.answers.specs.Answers.{done, refused}
 use Rattle.answers.specs.Limits.{longestStream}
 use Rattle.answers.specs.Results.{good}
-use Rattle.grammar.specs.Grammar.{Reading, Reads, units}
+use Rattle.grammar.specs.Grammar.{StreamUnit, Alone, Reading, Reads, units}
 use Rattle.grammar.specs.Rows.{Row, Placed, placedUnits, rows, rowLength, LengthIs}
 use Rattle.grammar.specs.Reasons.{Numbered}
 use Rattle.grammar.specs.Reader.{stopAt, walk, walkInto, filing, filingInto}
-use Rattle.grammar.specs.Refusals.{Refuses, RefusesInto}
+use Rattle.grammar.specs.Refusals.{BeginsSentence, Breaks, Refuses, RefusesInto}
 use Rattle.grammar.specs.declared.Reason.{Reason}
 use Rattle.grammar.proofs.Filing as filed
 use Rattle.grammar.proofs.Refusals as refusals
+use Rattle.grammar.proofs.RefusalsOfUnits as stops
 use Rattle.grammar.proofs.RowLengths as lengths
 use Rattle.grammar.proofs.Unique as unique
 
@@ -65,3 +66,12 @@ into-iff = refusals.into-iff
 
 pub into-one-place : (stream : List ℕ) (lent n : ℕ) (carried : List ℕ) → filingInto stream lent ≡ refused n carried → (at : ℕ) × (carried ≡ at ∷ [])
 into-one-place = refusals.into-one-place
+
+-- ── the first unit that breaks a rule ──
+
+-- After units that obey, a unit breaks a rule exactly where no sentence goes on with it, and for one reason alone.
+pub breaks-iff : (us : List StreamUnit) (u : StreamUnit) → BeginsSentence us → Alone u → ((why : Reason) × Breaks us u why) ↔ (¬ BeginsSentence (us ++ u ∷ []))
+breaks-iff = stops.breaks-iff
+
+pub breaks-one : (us : List StreamUnit) (u : StreamUnit) (m n : Reason) → BeginsSentence us → Breaks us u m → Breaks us u n → m ≡ n
+breaks-one = stops.breaks-one

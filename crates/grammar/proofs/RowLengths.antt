@@ -1,5 +1,5 @@
 -- A row's length is the whole body of user data and opaque extensions, and otherwise the body up to its last byte that is not 0.
-use Prim.Native.Nat.{ℕ, suc, _+_, _<_}
+use Prim.Native.Nat.{ℕ, suc, _+_, _≤_, _<_}
 use mathlib.Core.Path.{_≡_, refl, sym, _∙_, ap}
 use mathlib.Core.Logic.{_≢_, inl, inr, _↔_}
 use mathlib.Core.List.{List, [], _∷_, _++_}
@@ -106,6 +106,20 @@ length-is p = record {
   whole = λ w. ap (λ (t : Bool). length (cond t (p .unit .body) (trimmed (p .unit .body)))) (whole-iff p .1 w);
   trimmed = λ n. by-test (isWhole p) (λ t. absurd (n (whole-iff p .0 t))) (λ f. rw f (trims (p .unit .body)));
 }
+
+-- ── no row is longer than its body ──
+
+trimmed-le : (l : List ℕ) → length (trimmed l) ≤ length l
+trimmed-le [] = omega arith
+trimmed-le (x ∷ l) = kept-le x (trimmed l) (length l) (trimmed-le l)
+  where
+    kept-le : (x : ℕ) (l : List ℕ) (n : ℕ) → length l ≤ n → length (kept x l) ≤ suc n
+    kept-le x [] n h = by-test (eqb x 0) (λ t. rw t (omega arith)) (λ f. rw f (omega arith))
+    kept-le x (y ∷ l) n h = omega arith
+
+pub length-le : (p : Placed) → rowLength p ≤ length (p .unit .body)
+unfolding rowLength
+length-le p = let t = trimmed-le (p .unit .body) in by-test (isWhole p) (λ w. rw w (omega arith)) (λ f. rw f t)
 
 -- ── a row a unit ──
 

@@ -255,7 +255,3 @@ final-iff {us} {q} at a = (
   (λ t. rw append-nil at (sentence-from at [] t (rw append-nil a))),
   λ s. let l = left-final us (sentence-left us [] (rw append-nil s)) in sym (plain-final q) ∙ ap final (stage at ∙ sym (stage (l .1))) ∙ plain-final (l .0) ∙ l .2,
 )
-
--- units that obey begin a shape
-pub obey-shape : (us : List StreamUnit) → BeginsSentence us → BeginsShape (kindsOf us)
-obey-shape us b = (kindsOf (b .0), (us ++ b .0, b .1, map-append (λ u. kindOf (u .code)) us (b .0)))

@@ -151,7 +151,7 @@ final state.Ended = true
 final state.Closed = true
 
 abbrev pub isKind : Kind → Outcome Kind → Bool
-isKind j (done k) = sameKind j k
+isKind j (done k) = sameKind k j
 isKind j (refused number carried) = false
 
 -- a unit of this kind, read in this state, stands between a sequence header and the first picture, or elsewhere

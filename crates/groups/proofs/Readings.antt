@@ -40,7 +40,7 @@ abbrev NoHeader : StreamUnit → Type 0
 NoHeader u = beginsGroup u ≡ false
 
 -- a unit of another kind
-other-kind : (k : Kind) (u : StreamUnit) → IsKind k u → sameKind kind.SequenceHeader k ≡ false → NoHeader u
+other-kind : (k : Kind) (u : StreamUnit) → IsKind k u → sameKind k kind.SequenceHeader ≡ false → NoHeader u
 other-kind k u e d = ap (isKind kind.SequenceHeader) e ∙ d
 
 skip-all : (g : ℕ) (us vs : List StreamUnit) → All NoHeader us → groupIn g (us ++ vs) ≡ groupIn g vs
@@ -168,9 +168,6 @@ some-display (u ∷ us) h = by-dec (display-or-not u (h .0)) (some-display us (h
 header-read : (body : List ℕ) (header : SequenceHeader) → IsHeader body header → headerOf body ≡ done header
 unfolding headerOf answerOf
 header-read body header h = ap answerOf (header-good body header .1 h)
-
-same-header : (body : List ℕ) (a b : SequenceHeader) → IsHeader body a → IsHeader body b → a ≡ b
-same-header body a b h k = done-one (sym (header-read body a h) ∙ header-read body b k)
 
 some-record : (group : Group) → IsGroup group → (x : GroupRecord) × GroupIs group x
 some-record group h = let d = some-display (group .extras) (h .extras) in (record { header = h .header; display = d .0 }, record { header = h .body; display = d .1 })

@@ -8,16 +8,19 @@ use lib.ListN.{length, drop}
 use lib.Seq.{drop-length}
 use borrow.Author.Tests.{ltb-true, ltb-false}
 use native.Mathlib.Omega.{arith}
-use Rattle.answers.specs.Answers.{refused, NO-ROW}
-use Rattle.bits.proofs.Lists.{by-test}
+use Rattle.answers.specs.Answers.{done, refused, NO-ROW}
+use Rattle.bits.proofs.Lists.{by-test, contrary}
 use Rattle.startcode.specs.Kinds.{kindOf}
 use Rattle.startcode.specs.Prefix.{begins, nextPrefix}
+use Rattle.startcode.specs.declared.Kind.{Kind}
+use Rattle.startcode.specs.declared.Kind.the-variants as kind
 use Rattle.startcode.proofs.Laws.{search-start, search-hit}
 use Rattle.layout.specs.Reader.{headerOf}
 use Rattle.grammar.specs.Grammar.{StreamUnit}
-use Rattle.grammar.specs.Reader.{cut}
+use Rattle.grammar.specs.Reader.{cut, sameKind}
 use Rattle.grammar.proofs.Walk.{prefix-fits, chunks-cut, chunks-overlap, unitBetween, next-fits, chunks-unit, next-begins}
 use Rattle.groups.specs.Reader.{inHead, displayIn, groupOf, beginsGroup, groupIn}
+use Rattle.groups.specs.declared.Display.{Display}
 use Rattle.groups.specs.declared.Display.the-variants.{NotGiven}
 use Rattle.groups.specs.Inside.{unitsIn, unitsFrom, Here}
 
@@ -99,6 +102,17 @@ pub show-next : (s : List ℕ) (from at next : ℕ) → Showing s from at → Wa
     inHead (kindOf (u .code)) (u .body) (displayIn (unitsFrom s next)) ≡ displayIn (unitsFrom s from)
 unfolding displayIn
 show-next s from at next h w = sym (h .same ∙ ap displayIn (w .units))
+
+-- a unit of another kind than user data and extensions ends the head
+pub ends-head : (k : Kind) (body : List ℕ) (rest : Display) → sameKind k kind.UserData ≡ false → sameKind k kind.Extension ≡ false → NotGiven ≡ inHead (done k) body rest
+ends-head kind.Slice body rest u x = refl
+ends-head kind.SequenceHeader body rest u x = refl
+ends-head kind.SequenceEnd body rest u x = refl
+ends-head kind.UserData body rest u x = contrary true refl u
+ends-head kind.IPicture body rest u x = refl
+ends-head kind.Extension body rest u x = contrary true refl x
+ends-head kind.PBPicture body rest u x = refl
+ends-head kind.EditCode body rest u x = refl
 
 -- ── groups ──
 

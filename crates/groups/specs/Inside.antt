@@ -33,6 +33,6 @@ displayBy (inHead.Display d) rest = displayed.Given d
 displayBy inHead.Other rest = rest
 displayBy inHead.Past rest = displayed.NotGiven
 
--- a unit of the head says so of all those after it
-abbrev pub Shows : InHead → (Display → Display) → Type 0
-Shows y f = (rest : Display) → displayBy y rest ≡ f rest
+-- what a unit of the head says, whatever those after it say
+abbrev pub Tells : InHead → (Display → Display) → Type 0
+Tells y f = (rest : Display) → displayBy y rest ≡ f rest

@@ -15,7 +15,7 @@ ghost use Rattle.startcode.specs.Kinds.{kindOf};
 ghost use Rattle.grammar.specs.Reader.{isKind};
 ghost use Rattle.groups.specs.Groups.{groupSays};
 ghost use Rattle.groups.specs.Reader.{shown, inHead, displayIn, groupOf, groupIn, groupAt};
-ghost use Rattle.groups.specs.Inside.{Shows, unitsFrom, Here};
+ghost use Rattle.groups.specs.Inside.{Tells, unitsFrom, Here};
 
 // The display extension of a group's head.
 pub enum Display {
@@ -43,13 +43,7 @@ fn is_header(kind: Kind) -> bool
 {
     match kind {
         Kind::SequenceHeader => true,
-        Kind::Slice => false,
-        Kind::SequenceEnd => false,
-        Kind::UserData => false,
-        Kind::IPicture => false,
-        Kind::Extension => false,
-        Kind::PBPicture => false,
-        Kind::EditCode => false,
+        _ => false,
     }
 }
 
@@ -64,7 +58,7 @@ fn begins_group(code: u8) -> bool
 }
 
 fn head_extension(body: &[u8]) -> InHead
-    ensures { λ r. ⌜ Shows r (shown (extensionOf Place.Head (now (body .entry)))) ⌝ }
+    ensures { λ r. ⌜ Tells r (shown (extensionOf Place.Head (now (body .entry)))) ⌝ }
 {
     match layout::extension(body, Place::Head) {
         ExtensionAnswer::Display(d) => InHead::Display(d),
@@ -75,23 +69,18 @@ fn head_extension(body: &[u8]) -> InHead
 }
 
 fn head_unit(kind: Kind, body: &[u8]) -> InHead
-    ensures { λ r. ⌜ Shows r (inHead (done kind) (now (body .entry))) ⌝ }
+    ensures { λ r. ⌜ Tells r (inHead (done kind) (now (body .entry))) ⌝ }
 {
     match kind {
         Kind::UserData => InHead::Other,
         Kind::Extension => head_extension(body),
-        Kind::Slice => InHead::Past,
-        Kind::SequenceHeader => InHead::Past,
-        Kind::SequenceEnd => InHead::Past,
-        Kind::IPicture => InHead::Past,
-        Kind::PBPicture => InHead::Past,
-        Kind::EditCode => InHead::Past,
+        _ => InHead::Past,
     }
 }
 
 // What a unit of a group's head says, by its code.
 fn in_group_head(code: u8, body: &[u8]) -> InHead
-    ensures { λ r. ⌜ Shows r (inHead (kindOf code) (now (body .entry))) ⌝ }
+    ensures { λ r. ⌜ Tells r (inHead (kindOf code) (now (body .entry))) ⌝ }
 {
     match startcode::kind_of(code) {
         UnitKind::Is(kind) => head_unit(kind, body),

@@ -13,6 +13,7 @@ use Rattle.grammar.specs.Lists.{concatMap}
 use Rattle.grammar.specs.Grammar.{bytes, Reading, Reads}
 use Rattle.grammar.specs.Rows.{Row, Placed, placedUnits, kept, trimmed, isWhole, rowLength, rowsFrom, rows, words}
 use Rattle.grammar.proofs.Filing.{units-of-placed}
+use Rattle.grammar.proofs.RowLengths.{rows-length, length-le}
 use Rattle.rows.specs.Rows.{heldRow, inStream, ifInStream, existing, isRow, rowExists, partOf, rowBody}
 
 pub filed-row : (before : List Row) (r : Row) (after : List Row) (rest : List ℕ) → heldRow (words (before ++ r ∷ after) ++ rest) (length before) ≡ some r
@@ -27,10 +28,6 @@ bytesOf ps = concatMap (λ (p : Placed). bytes (p .unit)) ps
 
 abbrev rowFor : ℕ → Placed → Row
 rowFor at p = record { code = p .unit .code; offset = at; length = rowLength p }
-
-rows-length : (at : ℕ) (ps : List Placed) → length (rowsFrom at ps) ≡ length ps
-rows-length at [] = refl
-rows-length at (p ∷ ps) = ap suc (rows-length (at + length (bytes (p .unit))) ps)
 
 -- a unit's offset is the number of bytes in the units before it
 rows-split : (at : ℕ) (before : List Placed) (p : Placed) (after : List Placed) (o : ℕ) → o ≡ at + length (bytesOf before)
@@ -48,28 +45,6 @@ bytes-split : (before : List Placed) (p : Placed) (after : List Placed) → byte
 bytes-split [] p after = refl
 bytes-split (b ∷ before) p after = ap (λ (l : List ℕ). bytes (b .unit) ++ l) (bytes-split before p after) ∙ simp append-assoc
 
--- ── the length is at most the body's ──
-
-kept-length : (x : ℕ) (l : List ℕ) → length (kept x l) ≤ length l + 1
-kept-length x [] = go (eqb x 0)
-  where
-    go : (t : Bool) → length (cond t [] (x ∷ [])) ≤ 1
-    go true = omega arith
-    go false = omega arith
-kept-length x (y ∷ ys) = omega arith
-
-trimmed-length : (l : List ℕ) → length (trimmed l) ≤ length l
-trimmed-length [] = omega arith
-trimmed-length (x ∷ xs) = let r = trimmed-length xs in omega (arith, kept-length x (trimmed xs))
-
-row-length : (p : Placed) → rowLength p ≤ length (p .unit .body)
-unfolding rowLength
-row-length p = go (isWhole p)
-  where
-    go : (t : Bool) → length (cond t (p .unit .body) (trimmed (p .unit .body))) ≤ length (p .unit .body)
-    go true = omega arith
-    go false = trimmed-length (p .unit .body)
-
 -- ── the body of a unit's row ──
 
 held-unit : (before : List Placed) (p : Placed) (after : List Placed) (rest : List ℕ)
@@ -83,13 +58,13 @@ held-unit before p after rest =
 row-inside : (b : List ℕ) (p : Placed) (a : List ℕ) → inStream (b ++ (bytes (p .unit) ++ a)) (rowFor (length b) p) ≡ true
 unfolding inStream
 row-inside b p a =
-    let l = row-length p in
+    let l = length-le p in
     le-leb (length b + 4 + rowLength p) (length (b ++ (bytes (p .unit) ++ a))) (omega (arith, length-append b (bytes (p .unit) ++ a), length-append (p .unit .body) a))
 
 body-inside : (b : List ℕ) (p : Placed) (a : List ℕ) → take (rowLength p) (drop (length b + 4) (b ++ (bytes (p .unit) ++ a))) ≡ take (rowLength p) (p .unit .body)
 body-inside b p a =
     ap (take (rowLength p)) (drop-append-add b (bytes (p .unit) ++ a) 4)
-    ∙ take-append-le (rowLength p) (p .unit .body) a (row-length p)
+    ∙ take-append-le (rowLength p) (p .unit .body) a (length-le p)
 
 existing-unit : (before : List Placed) (p : Placed) (after : List Placed) (rest : List ℕ)
     → existing (bytesOf (before ++ p ∷ after)) (words (rowsFrom 0 (before ++ p ∷ after)) ++ rest) (length before) ≡ some (rowFor (length (bytesOf before)) p)

@@ -8,8 +8,10 @@ use lib.Seq.{take-suc, take-length}
 use borrow.Author.Tests.{ne-eqb, lt-ltb, le-ltb, le-leb, lt-leb}
 use native.Mathlib.Omega.{arith}
 use Rattle.answers.specs.Answers.{done}
+use Rattle.bits.proofs.Lists.{contrary}
 use Rattle.layout.specs.Extensions.{numbered}
 use Rattle.layout.specs.Reader.{displayOf, extensionResult, byNumber, allZero}
+use Rattle.layout.specs.declared.Place.{Place}
 use Rattle.layout.specs.declared.Place.the-variants as place
 use Rattle.layout.proofs.NumberLaws.{number-iff}
 use Rattle.startcode.specs.Kinds.{kindOf}
@@ -17,7 +19,7 @@ use Rattle.startcode.specs.declared.Kind.{Kind}
 use Rattle.startcode.specs.declared.Kind.the-variants as kind
 use Rattle.grammar.specs.Grammar.{StreamUnit}
 use Rattle.grammar.specs.Rows.{placed, kept, trimmed, wholeBody, rowLength}
-use Rattle.grammar.specs.Reader.{isNil, sliceStep, placeOf, placeIn}
+use Rattle.grammar.specs.Reader.{sameKind, isNil, sliceStep, placeOf, placeIn}
 use Rattle.grammar.specs.declared.SliceRule.{SliceRule}
 use Rattle.grammar.specs.declared.State.{State}
 use Rattle.grammar.specs.declared.State.the-variants.{Start, Head, Picture as InPicture, Slices, Ended, Closed}
@@ -110,3 +112,14 @@ pub length-same : (q : State) (k : Kind) (u : StreamUnit) → kindOf (u .code) �
     length (cond (wholeBody (done k) (extensionPlace q) (u .body)) (u .body) (trimmed (u .body))) ≡ rowLength (placed (placeIn q u) u)
 unfolding rowLength
 length-same q k u e = rw (e, place-same q k (u .body))
+
+-- a kind that is neither user data nor an extension
+pub not-whole : (k : Kind) (p : Place) (body : List ℕ) → sameKind k kind.UserData ≡ false → sameKind k kind.Extension ≡ false → wholeBody (done k) p body ≡ false
+not-whole kind.Slice p body u x = refl
+not-whole kind.SequenceHeader p body u x = refl
+not-whole kind.SequenceEnd p body u x = refl
+not-whole kind.UserData p body u x = contrary true refl u
+not-whole kind.IPicture p body u x = refl
+not-whole kind.Extension p body u x = contrary true refl x
+not-whole kind.PBPicture p body u x = refl
+not-whole kind.EditCode p body u x = refl

@@ -18,6 +18,7 @@ use Rattle.grammar.specs.declared.State.{State}
 use Rattle.grammar.specs.declared.Reason.the-variants as reason
 use Rattle.grammar.specs.declared.Step.{Step}
 use Rattle.grammar.specs.declared.Step.the-variants.{Go as go, Stop as stop}
+use Rattle.grammar.proofs.RowLengths.{length-le}
 use Rattle.grammar.proofs.Walk.{left, prefix-fits, chunks-cut, chunks-overlap, chunks-some, unitBetween, next-fits, chunks-unit, unit-ends, next-begins}
 use Rattle.units.specs.Reader.{nextOf, unitFrom, unitOf, unitAt}
 use Rattle.units.specs.declared.UnitAnswer.{UnitAnswer}
@@ -49,18 +50,6 @@ module _ (s : List ℕ) (q : State) (at : ℕ) (b : begins (drop at s) ≡ true)
   unit-is = ap (unitFrom q the-unit) (sym (unit-ends s at b h b′)) ∙ chunk-unit s q at _ b (chunks-unit s at b h b′)
 
 -- ── what it leaves of the walk ──
-
-trimmed-le : (l : List ℕ) → length (trimmed l) ≤ length l
-trimmed-le [] = omega arith
-trimmed-le (x ∷ l) = kept-le x (trimmed l) (length l) (trimmed-le l)
-  where
-    kept-le : (x : ℕ) (l : List ℕ) (n : ℕ) → length l ≤ n → length (kept x l) ≤ suc n
-    kept-le x [] n h = by-test (eqb x 0) (λ t. rw t (omega arith)) (λ f. rw f (omega arith))
-    kept-le x (y ∷ l) n h = omega arith
-
-pub length-le : (p : Place) (u : StreamUnit) → rowLength (placed p u) ≤ length (u .body)
-unfolding rowLength
-length-le p u = let t = trimmed-le (u .body) in by-test (isWhole (placed p u)) (λ w. rw w (omega arith)) (λ f. rw f t)
 
 -- a unit that goes on: it, with its place, and where the next one begins
 pub record Advanced (s : List ℕ) (q : State) (at : ℕ) (next : State) (end length : ℕ) : Type 0 where
@@ -109,7 +98,7 @@ module _ (s : List ℕ) (q : State) (at : ℕ) (b : begins (drop at s) ≡ true)
   by-step : (t : Step) → step q here ≡ t → Left s q at (nextOf t (nextPrefix s (at + 3)) (rowLength (placed (placeIn q here) here)))
   by-step (go q′) e =
       let f = next-fits s at b h b′ in
-      let l = length-le (placeIn q here) here in
+      let l = length-le (placed (placeIn q here) here) in
       let d = length-take (nextPrefix s (at + 3) - (at + 4)) (drop (at + 4) s) in
       let k = length-drop (at + 4) s in
       record {

@@ -152,13 +152,7 @@ fn at_start(kind: Kind, code: u8, body: &[u8]) -> Step
 {
     match kind {
         Kind::SequenceHeader => header_step(body),
-        Kind::Slice => Step::Stop(Reason::OutOfPlace),
-        Kind::SequenceEnd => Step::Stop(Reason::OutOfPlace),
-        Kind::UserData => Step::Stop(Reason::OutOfPlace),
-        Kind::IPicture => Step::Stop(Reason::OutOfPlace),
-        Kind::Extension => Step::Stop(Reason::OutOfPlace),
-        Kind::PBPicture => Step::Stop(Reason::OutOfPlace),
-        Kind::EditCode => Step::Stop(Reason::OutOfPlace),
+        _ => Step::Stop(Reason::OutOfPlace),
     }
 }
 
@@ -169,11 +163,7 @@ fn in_head(rule: SliceRule, display: bool, kind: Kind, code: u8, body: &[u8]) ->
         Kind::UserData => Step::Go(State::Head(rule, display)),
         Kind::Extension => head_extension(rule, display, body),
         Kind::IPicture => picture_step(rule, body),
-        Kind::Slice => Step::Stop(Reason::OutOfPlace),
-        Kind::SequenceHeader => Step::Stop(Reason::OutOfPlace),
-        Kind::SequenceEnd => Step::Stop(Reason::OutOfPlace),
-        Kind::PBPicture => Step::Stop(Reason::OutOfPlace),
-        Kind::EditCode => Step::Stop(Reason::OutOfPlace),
+        _ => Step::Stop(Reason::OutOfPlace),
     }
 }
 
@@ -184,11 +174,7 @@ fn in_picture(rule: SliceRule, kind: Kind, code: u8, body: &[u8]) -> Step
         Kind::Slice => slice_step(rule, 0, code, body),
         Kind::UserData => Step::Go(State::Picture(rule)),
         Kind::Extension => extension_step(body, Place::Picture, State::Picture(rule)),
-        Kind::SequenceHeader => Step::Stop(Reason::OutOfPlace),
-        Kind::SequenceEnd => Step::Stop(Reason::OutOfPlace),
-        Kind::IPicture => Step::Stop(Reason::OutOfPlace),
-        Kind::PBPicture => Step::Stop(Reason::OutOfPlace),
-        Kind::EditCode => Step::Stop(Reason::OutOfPlace),
+        _ => Step::Stop(Reason::OutOfPlace),
     }
 }
 
@@ -202,8 +188,7 @@ fn after_slice(rule: SliceRule, least: u32, kind: Kind, code: u8, body: &[u8]) -
         Kind::SequenceHeader => header_step(body),
         Kind::SequenceEnd => ending_step(body, State::Ended),
         Kind::EditCode => ending_step(body, State::Closed),
-        Kind::UserData => Step::Stop(Reason::OutOfPlace),
-        Kind::Extension => Step::Stop(Reason::OutOfPlace),
+        _ => Step::Stop(Reason::OutOfPlace),
     }
 }
 
@@ -212,13 +197,7 @@ fn after_end(kind: Kind, code: u8, body: &[u8]) -> Step
 {
     match kind {
         Kind::EditCode => ending_step(body, State::Closed),
-        Kind::Slice => Step::Stop(Reason::OutOfPlace),
-        Kind::SequenceHeader => Step::Stop(Reason::OutOfPlace),
-        Kind::SequenceEnd => Step::Stop(Reason::OutOfPlace),
-        Kind::UserData => Step::Stop(Reason::OutOfPlace),
-        Kind::IPicture => Step::Stop(Reason::OutOfPlace),
-        Kind::Extension => Step::Stop(Reason::OutOfPlace),
-        Kind::PBPicture => Step::Stop(Reason::OutOfPlace),
+        _ => Step::Stop(Reason::OutOfPlace),
     }
 }
 
@@ -258,12 +237,7 @@ fn is_whole(place: Place, kind: Kind, body: &[u8]) -> bool
     match kind {
         Kind::UserData => true,
         Kind::Extension => layout::is_opaque(body, place),
-        Kind::Slice => false,
-        Kind::SequenceHeader => false,
-        Kind::SequenceEnd => false,
-        Kind::IPicture => false,
-        Kind::PBPicture => false,
-        Kind::EditCode => false,
+        _ => false,
     }
 }
 

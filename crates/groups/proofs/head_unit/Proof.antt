@@ -1,8 +1,25 @@
--- Each arm is one kind.
-use mathlib.Core.Path.{refl}
+-- Each arm is one kind; any other ends the head.
+use Prim.Native.Nat.{ℕ}
+use mathlib.Core.Path.{_≡_, refl}
+use mathlib.Core.List.{List, [], _∷_}
+use mathlib.Core.Bool.{false, not}
+use mir.Val.{hasKey}
+use lib.Dec.{T}
 use borrow.Author.Needs.{needs}
+use Rattle.startcode.specs.declared.Kind.{Kind}
+use Rattle.startcode.specs.declared.Kind.the-variants as kind
+use Rattle.grammar.specs.Reader.{kindIndex, sameKind}
+use Rattle.grammar.proofs.KindLaws.{last-arm}
+use Rattle.groups.proofs.Walk.{ends-head}
 use Rattle.groups.proofs.head_unit.Statement.{statement}
 use Rattle.groups.proofs.head_unit.Tie as tie
+
+-- the kinds of the last arm, by their numbers
+abbrev left : List ℕ
+left = 0 ∷ 1 ∷ 2 ∷ 4 ∷ 6 ∷ 7 ∷ []
+
+other : (c : tie.At-match-keys3) (j : Kind) → T (not (hasKey left (kindIndex j))) → sameKind (c .before .before .args .kind) j ≡ false
+other c j n = last-arm left j (c .before .before .args .kind) (c .match .keys3) n
 
 enum-told : tie.Need-enum-told
 enum-told c = search needs
@@ -13,24 +30,6 @@ enum-told-2 c = search needs
 head-extension-requires : tie.Need-head-extension-requires
 head-extension-requires c κs = search needs
 
-enum-told-3 : tie.Need-enum-told-3
-enum-told-3 c = search needs
-
-enum-told-4 : tie.Need-enum-told-4
-enum-told-4 c = search needs
-
-enum-told-5 : tie.Need-enum-told-5
-enum-told-5 c = search needs
-
-enum-told-6 : tie.Need-enum-told-6
-enum-told-6 c = search needs
-
-enum-told-7 : tie.Need-enum-told-7
-enum-told-7 c = search needs
-
-enum-told-8 : tie.Need-enum-told-8
-enum-told-8 c = search needs
-
 returns : tie.Need-returns
 returns c = rw (c .enum-told .given .1) (λ rest. refl)
 
@@ -38,41 +37,8 @@ returns-2 : tie.Need-returns-2
 returns-2 c = rw (c .before .enum-told2 .given .1) (c .head-extension .ensures)
 
 returns-3 : tie.Need-returns-3
-returns-3 c = rw (c .enum-told3 .given .1) (λ rest. refl)
-
-returns-4 : tie.Need-returns-4
-returns-4 c = rw (c .enum-told4 .given .1) (λ rest. refl)
-
-returns-5 : tie.Need-returns-5
-returns-5 c = rw (c .enum-told5 .given .1) (λ rest. refl)
-
-returns-6 : tie.Need-returns-6
-returns-6 c = rw (c .enum-told6 .given .1) (λ rest. refl)
-
-returns-7 : tie.Need-returns-7
-returns-7 c = rw (c .enum-told7 .given .1) (λ rest. refl)
-
-returns-8 : tie.Need-returns-8
-returns-8 c = rw (c .enum-told8 .given .1) (λ rest. refl)
+returns-3 c = λ rest. let a = c .before .before .args in ends-head (a .kind) (a .body .now) rest (other c kind.UserData tt) (other c kind.Extension tt)
 
 pub head-unit-spec : {M : Type 1} → statement M
 head-unit-spec =
-    tie.close
-    (tie.spec
-    enum-told
-    enum-told-2
-    head-extension-requires
-    enum-told-3
-    enum-told-4
-    enum-told-5
-    enum-told-6
-    enum-told-7
-    enum-told-8
-    returns
-    returns-2
-    returns-3
-    returns-4
-    returns-5
-    returns-6
-    returns-7
-    returns-8)
+    tie.close (tie.spec enum-told enum-told-2 head-extension-requires returns returns-2 returns-3)

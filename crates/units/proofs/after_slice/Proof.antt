@@ -1,7 +1,24 @@
--- Each arm is one line of the table.
+-- Each arm is one line of the table; where it comes to the last, the table has no such kind.
+use Prim.Native.Nat.{ℕ}
+use mathlib.Core.Path.{_≡_}
+use mathlib.Core.List.{List, [], _∷_}
+use mathlib.Core.Bool.{false, not}
+use mir.Val.{hasKey}
+use lib.Dec.{T}
 use borrow.Author.Needs.{needs}
+use Rattle.startcode.specs.declared.Kind.{Kind}
+use Rattle.startcode.specs.declared.Kind.the-variants as kind
+use Rattle.grammar.specs.Reader.{kindIndex, sameKind}
+use Rattle.grammar.proofs.KindLaws.{last-arm}
 use Rattle.units.proofs.after_slice.Statement.{statement}
 use Rattle.units.proofs.after_slice.Tie as tie
+
+-- the kinds of the last arm, by their numbers
+abbrev left : List ℕ
+left = 3 ∷ 5 ∷ []
+
+other : (c : tie.At-match-keys7) (j : Kind) → T (not (hasKey left (kindIndex j))) → sameKind (c .before .before .args .kind) j ≡ false
+other c j n = last-arm left j (c .before .before .args .kind) (c .match .keys7) n
 
 enum-told : tie.Need-enum-told
 enum-told c = search needs
@@ -39,12 +56,6 @@ enum-told-6 c = search needs
 ending-step-requires-2 : tie.Need-ending-step-requires-2
 ending-step-requires-2 c κs = search needs
 
-enum-told-7 : tie.Need-enum-told-7
-enum-told-7 c = search needs
-
-enum-told-8 : tie.Need-enum-told-8
-enum-told-8 c = search needs
-
 returns : tie.Need-returns
 returns c = rw (c .before .enum-told .given .1) (c .slice-step .ensures)
 
@@ -64,10 +75,7 @@ returns-6 : tie.Need-returns-6
 returns-6 c = rw (c .before .enum-told6 .given .1) (c .ending-step2 .ensures)
 
 returns-7 : tie.Need-returns-7
-returns-7 c = rw (c .enum-told7 .given .1)
-
-returns-8 : tie.Need-returns-8
-returns-8 c = rw (c .enum-told8 .given .1)
+returns-7 c = rw (other c kind.Slice tt, other c kind.IPicture tt, other c kind.PBPicture tt, other c kind.SequenceHeader tt, other c kind.SequenceEnd tt, other c kind.EditCode tt)
 
 pub after-slice-spec : {M : Type 1} → statement M
 after-slice-spec =
@@ -85,13 +93,10 @@ after-slice-spec =
     ending-step-requires
     enum-told-6
     ending-step-requires-2
-    enum-told-7
-    enum-told-8
     returns
     returns-2
     returns-3
     returns-4
     returns-5
     returns-6
-    returns-7
-    returns-8)
+    returns-7)

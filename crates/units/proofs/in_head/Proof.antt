@@ -1,7 +1,24 @@
--- Each arm is one line of the table.
+-- Each arm is one line of the table; where it comes to the last, the table has no such kind.
+use Prim.Native.Nat.{ℕ}
+use mathlib.Core.Path.{_≡_}
+use mathlib.Core.List.{List, [], _∷_}
+use mathlib.Core.Bool.{false, not}
+use mir.Val.{hasKey}
+use lib.Dec.{T}
 use borrow.Author.Needs.{needs}
+use Rattle.startcode.specs.declared.Kind.{Kind}
+use Rattle.startcode.specs.declared.Kind.the-variants as kind
+use Rattle.grammar.specs.Reader.{kindIndex, sameKind}
+use Rattle.grammar.proofs.KindLaws.{last-arm}
 use Rattle.units.proofs.in_head.Statement.{statement}
 use Rattle.units.proofs.in_head.Tie as tie
+
+-- the kinds of the last arm, by their numbers
+abbrev left : List ℕ
+left = 0 ∷ 1 ∷ 2 ∷ 6 ∷ 7 ∷ []
+
+other : (c : tie.At-match-keys4) (j : Kind) → T (not (hasKey left (kindIndex j))) → sameKind (c .before .before .args .kind) j ≡ false
+other c j n = last-arm left j (c .before .before .args .kind) (c .match .keys4) n
 
 enum-told : tie.Need-enum-told
 enum-told c = search needs
@@ -18,21 +35,6 @@ enum-told-3 c = search needs
 picture-step-requires : tie.Need-picture-step-requires
 picture-step-requires c κs = search needs
 
-enum-told-4 : tie.Need-enum-told-4
-enum-told-4 c = search needs
-
-enum-told-5 : tie.Need-enum-told-5
-enum-told-5 c = search needs
-
-enum-told-6 : tie.Need-enum-told-6
-enum-told-6 c = search needs
-
-enum-told-7 : tie.Need-enum-told-7
-enum-told-7 c = search needs
-
-enum-told-8 : tie.Need-enum-told-8
-enum-told-8 c = search needs
-
 returns : tie.Need-returns
 returns c = rw (c .enum-told .given .1)
 
@@ -43,19 +45,7 @@ returns-3 : tie.Need-returns-3
 returns-3 c = rw (c .before .enum-told3 .given .1) (c .picture-step .ensures)
 
 returns-4 : tie.Need-returns-4
-returns-4 c = rw (c .enum-told4 .given .1)
-
-returns-5 : tie.Need-returns-5
-returns-5 c = rw (c .enum-told5 .given .1)
-
-returns-6 : tie.Need-returns-6
-returns-6 c = rw (c .enum-told6 .given .1)
-
-returns-7 : tie.Need-returns-7
-returns-7 c = rw (c .enum-told7 .given .1)
-
-returns-8 : tie.Need-returns-8
-returns-8 c = rw (c .enum-told8 .given .1)
+returns-4 c = rw (other c kind.UserData tt, other c kind.Extension tt, other c kind.IPicture tt)
 
 pub in-head-spec : {M : Type 1} → statement M
 in-head-spec =
@@ -66,16 +56,7 @@ in-head-spec =
     head-extension-requires
     enum-told-3
     picture-step-requires
-    enum-told-4
-    enum-told-5
-    enum-told-6
-    enum-told-7
-    enum-told-8
     returns
     returns-2
     returns-3
-    returns-4
-    returns-5
-    returns-6
-    returns-7
-    returns-8)
+    returns-4)
