@@ -82,8 +82,9 @@ changed (suc k) v (f ∷ fs) = f ∷ changed k v fs
 abbrev pub headerFields : ℕ → ℕ → Fields
 headerFields horizontal vertical =
     (8, 72) ∷ (8, 65) ∷ (1, 1) ∷ (14, horizontal) ∷ (14, vertical) ∷ (2, 2) ∷ (3, 1) ∷ (4, 3) ∷ (4, 4)
-    ∷ (18, 100000) ∷ (1, 1) ∷ (12, 3) ∷ (1, 1) ∷ (1, 1) ∷ (18, 200000) ∷ (3, 5) ∷ (8, 0x80) ∷ []
+    ∷ (18, 100000) ∷ (1, 1) ∷ (12, 7) ∷ (1, 0) ∷ (1, 1) ∷ (18, 200000) ∷ (3, 5) ∷ (8, 0x80) ∷ []
 
+-- each field at its least, and at its greatest
 abbrev pub leastHeader : Fields
 leastHeader =
     (8, 0) ∷ (8, 0) ∷ (1, 0) ∷ (14, 1) ∷ (14, 1) ∷ (2, 1) ∷ (3, 1) ∷ (4, 1) ∷ (4, 1)
@@ -122,16 +123,34 @@ fraction ratio.NotGiven = done []
 
 -- number, format, range, colour given, width, marker, height, stereo, stuffing
 abbrev pub plainFields : Fields
-plainFields = (4, 2) ∷ (3, 5) ∷ (1, 1) ∷ (1, 0) ∷ (14, 720) ∷ (1, 1) ∷ (14, 576) ∷ (2, 1) ∷ (8, 0x80) ∷ []
+plainFields = (4, 2) ∷ (3, 5) ∷ (1, 0) ∷ (1, 0) ∷ (14, 720) ∷ (1, 1) ∷ (14, 576) ∷ (2, 1) ∷ (8, 0x80) ∷ []
+
+abbrev pub leastPlain : Fields
+leastPlain = (4, 2) ∷ (3, 0) ∷ (1, 0) ∷ (1, 0) ∷ (14, 0) ∷ (1, 1) ∷ (14, 0) ∷ (2, 0) ∷ (8, 0x80) ∷ []
+
+abbrev pub greatestPlain : Fields
+greatestPlain = (4, 2) ∷ (3, 7) ∷ (1, 1) ∷ (1, 0) ∷ (14, 16383) ∷ (1, 1) ∷ (14, 16383) ∷ (2, 2) ∷ (8, 0x80) ∷ []
 
 -- number, format, range, colour given, primaries, transfer, matrix, width, marker, height, stereo, stuffing
 abbrev pub colouredFields : Fields
-colouredFields = (4, 2) ∷ (3, 5) ∷ (1, 1) ∷ (1, 1) ∷ (8, 9) ∷ (8, 4) ∷ (8, 5) ∷ (14, 720) ∷ (1, 1) ∷ (14, 576) ∷ (2, 1) ∷ (8, 0x80) ∷ []
+colouredFields = (4, 2) ∷ (3, 6) ∷ (1, 0) ∷ (1, 1) ∷ (8, 9) ∷ (8, 4) ∷ (8, 5) ∷ (14, 1280) ∷ (1, 1) ∷ (14, 704) ∷ (2, 1) ∷ (8, 0x80) ∷ []
+
+abbrev pub leastColoured : Fields
+leastColoured = (4, 2) ∷ (3, 0) ∷ (1, 0) ∷ (1, 1) ∷ (8, 0) ∷ (8, 1) ∷ (8, 1) ∷ (14, 0) ∷ (1, 1) ∷ (14, 0) ∷ (2, 0) ∷ (8, 0x80) ∷ []
+
+abbrev pub greatestColoured : Fields
+greatestColoured = (4, 2) ∷ (3, 7) ∷ (1, 1) ∷ (1, 1) ∷ (8, 255) ∷ (8, 10) ∷ (8, 7) ∷ (14, 16383) ∷ (1, 1) ∷ (14, 16383) ∷ (2, 2) ∷ (8, 0x80) ∷ []
 
 -- number, flag, owner, original, reserved, marker, part one, marker, part two, marker, part three, stuffing
 abbrev pub copyrightFields : ℕ → ℕ → ℕ → ℕ → ℕ → Fields
 copyrightFields flag owner one two three =
-    (4, 4) ∷ (1, flag) ∷ (8, owner) ∷ (1, 1) ∷ (7, 42) ∷ (1, 1) ∷ (20, one) ∷ (1, 1) ∷ (22, two) ∷ (1, 1) ∷ (22, three) ∷ (8, 0x80) ∷ []
+    (4, 4) ∷ (1, flag) ∷ (8, owner) ∷ (1, 0) ∷ (7, 42) ∷ (1, 1) ∷ (20, one) ∷ (1, 1) ∷ (22, two) ∷ (1, 1) ∷ (22, three) ∷ (8, 0x80) ∷ []
+
+abbrev pub leastCopyright : Fields
+leastCopyright = (4, 4) ∷ (1, 0) ∷ (8, 0) ∷ (1, 0) ∷ (7, 0) ∷ (1, 1) ∷ (20, 0) ∷ (1, 1) ∷ (22, 0) ∷ (1, 1) ∷ (22, 0) ∷ (8, 0x80) ∷ []
+
+abbrev pub greatestCopyright : Fields
+greatestCopyright = (4, 4) ∷ (1, 1) ∷ (8, 255) ∷ (1, 1) ∷ (7, 127) ∷ (1, 1) ∷ (20, 1048575) ∷ (1, 1) ∷ (22, 4194303) ∷ (1, 1) ∷ (22, 4194303) ∷ (8, 0x80) ∷ []
 
 abbrev pub plainBody : List ℕ
 plainBody = body 6 plainFields
@@ -148,7 +167,7 @@ colourNumbers colour.NotGiven = []
 
 -- the number, then the record's numbers; an opaque extension has its number alone
 abbrev pub extensionNumbers : Extension → List ℕ
-extensionNumbers (display d) = 2 ∷ d .format ∷ d .range ∷ d .width ∷ d .height ∷ d .stereo ∷ colourNumbers (d .colour)
+extensionNumbers (display d) = 2 ∷ d .format ∷ d .range ∷ colourNumbers (d .colour) ++ d .width ∷ d .height ∷ d .stereo ∷ []
 extensionNumbers (copyright c) = 4 ∷ c .flag ∷ c .owner ∷ c .original ∷ c .number ∷ []
 extensionNumbers (opaque number) = number ∷ []
 
@@ -288,7 +307,7 @@ paired a b = let g = pairOf a b in done (g .p ∷ g .lg ∷ [])
 abbrev pub pairBin : State → Context → Context → Outcome (List ℕ)
 pairBin x a b = mapDone (λ r. r .0 ∷ contextNumbers (r .2) ++ contextNumbers (r .3)) (decodePairOf payload 24 x a b)
 
--- one bin of a fresh context by a state, and of a state within its ranges by a context
+-- one bypass bin by a state, and one bin of a state within its ranges by a context
 abbrev pub byState : State → Outcome (ℕ × State)
 byState x = bypassOf payload 24 x
 
@@ -349,7 +368,9 @@ unitLimits =
 
 abbrev pub headerLimits : List Example
 headerLimits =
-    headerIs (headerFields 720 576) gives done (72 ∷ 65 ∷ 1 ∷ 720 ∷ 576 ∷ 2 ∷ 1 ∷ 3 ∷ 4 ∷ 886432 ∷ 1 ∷ 200000 ∷ [])
+    -- progressive (2) 1 and low delay (12) 0, and the other way about; each field at its least, and at its greatest
+    headerIs (headerFields 720 576) gives done (72 ∷ 65 ∷ 1 ∷ 720 ∷ 576 ∷ 2 ∷ 1 ∷ 3 ∷ 4 ∷ 1935008 ∷ 0 ∷ 200000 ∷ [])
+    ∷ headerIs (changed 2 0 (changed 12 1 (headerFields 720 576))) gives done (72 ∷ 65 ∷ 0 ∷ 720 ∷ 576 ∷ 2 ∷ 1 ∷ 3 ∷ 4 ∷ 1935008 ∷ 1 ∷ 200000 ∷ [])
     ∷ headerIs leastHeader gives done (0 ∷ 0 ∷ 0 ∷ 1 ∷ 1 ∷ 1 ∷ 1 ∷ 1 ∷ 1 ∷ 0 ∷ 0 ∷ 0 ∷ [])
     ∷ headerIs greatestHeader gives done (255 ∷ 255 ∷ 1 ∷ 16383 ∷ 16383 ∷ 2 ∷ 1 ∷ 4 ∷ 8 ∷ 1073741823 ∷ 1 ∷ 262143 ∷ [])
     -- bit rate = high × 262,144 + low: fields 11 and 9
@@ -410,19 +431,26 @@ headerLimits =
 
 abbrev pub extensionLimits : List Example
 extensionLimits =
-    -- a display extension without colour, and with it
-    inHead plainBody gives done (2 ∷ 5 ∷ 1 ∷ 720 ∷ 576 ∷ 1 ∷ [])
-    ∷ inHead colouredBody gives done (2 ∷ 5 ∷ 1 ∷ 720 ∷ 576 ∷ 1 ∷ 9 ∷ 4 ∷ 5 ∷ [])
+    -- a display extension without colour, and with it; each field at its least, and at its greatest
+    inHead plainBody gives done (2 ∷ 5 ∷ 0 ∷ 720 ∷ 576 ∷ 1 ∷ [])
+    ∷ inHead (body 6 leastPlain) gives done (2 ∷ 0 ∷ 0 ∷ 0 ∷ 0 ∷ 0 ∷ [])
+    ∷ inHead (body 6 greatestPlain) gives done (2 ∷ 7 ∷ 1 ∷ 16383 ∷ 16383 ∷ 2 ∷ [])
+    ∷ inHead colouredBody gives done (2 ∷ 6 ∷ 0 ∷ 9 ∷ 4 ∷ 5 ∷ 1280 ∷ 704 ∷ 1 ∷ [])
+    ∷ inHead (body 9 leastColoured) gives done (2 ∷ 0 ∷ 0 ∷ 0 ∷ 1 ∷ 1 ∷ 0 ∷ 0 ∷ 0 ∷ [])
+    ∷ inHead (body 9 greatestColoured) gives done (2 ∷ 7 ∷ 1 ∷ 255 ∷ 10 ∷ 7 ∷ 16383 ∷ 16383 ∷ 2 ∷ [])
     -- primaries (4) are not judged; transfer (5) 0, 3 or above 10; matrix (6) 0, 3 or above 7
     ∷ statuses (colouredWith 4) (0 ∷ 3 ∷ 255 ∷ []) gives done (0 ∷ 0 ∷ 0 ∷ [])
     ∷ statuses (colouredWith 5) (0 ∷ 1 ∷ 2 ∷ 3 ∷ 4 ∷ 5 ∷ 9 ∷ 10 ∷ 11 ∷ 255 ∷ []) gives done (8 ∷ 0 ∷ 0 ∷ 8 ∷ 0 ∷ 0 ∷ 0 ∷ 0 ∷ 8 ∷ 8 ∷ [])
     ∷ statuses (colouredWith 6) (0 ∷ 1 ∷ 2 ∷ 3 ∷ 4 ∷ 5 ∷ 6 ∷ 7 ∷ 8 ∷ 255 ∷ []) gives done (8 ∷ 0 ∷ 0 ∷ 8 ∷ 0 ∷ 0 ∷ 0 ∷ 0 ∷ 8 ∷ 8 ∷ [])
-    -- stereo (7, with colour 10) 3; format (1), width (4) and height (6) are not judged
+    -- stereo (7, with colour 10) 3; format (1), width (4, with colour 7) and height (6, with colour 9) are not judged
     ∷ statuses (plainWith 7) (0 ∷ 1 ∷ 2 ∷ 3 ∷ []) gives done (0 ∷ 0 ∷ 0 ∷ 8 ∷ [])
     ∷ statuses (colouredWith 10) (0 ∷ 1 ∷ 2 ∷ 3 ∷ []) gives done (0 ∷ 0 ∷ 0 ∷ 8 ∷ [])
     ∷ statuses (plainWith 1) (0 ∷ 7 ∷ []) gives done (0 ∷ 0 ∷ [])
     ∷ statuses (plainWith 4) (0 ∷ 16383 ∷ []) gives done (0 ∷ 0 ∷ [])
     ∷ statuses (plainWith 6) (0 ∷ 16383 ∷ []) gives done (0 ∷ 0 ∷ [])
+    ∷ statuses (colouredWith 1) (0 ∷ 7 ∷ []) gives done (0 ∷ 0 ∷ [])
+    ∷ statuses (colouredWith 7) (0 ∷ 16383 ∷ []) gives done (0 ∷ 0 ∷ [])
+    ∷ statuses (colouredWith 9) (0 ∷ 16383 ∷ []) gives done (0 ∷ 0 ∷ [])
     -- the marker (5, with colour 8)
     ∷ statuses (plainWith 5) (0 ∷ 1 ∷ []) gives done (7 ∷ 0 ∷ [])
     ∷ statuses (colouredWith 8) (0 ∷ 1 ∷ []) gives done (7 ∷ 0 ∷ [])
@@ -433,23 +461,27 @@ extensionLimits =
     -- the stuffing (8, with colour 11)
     ∷ statuses (plainWith 8) (0x80 ∷ 0x40 ∷ 0x81 ∷ 0x00 ∷ []) gives done (0 ∷ 9 ∷ 9 ∷ 9 ∷ [])
     ∷ statuses (colouredWith 11) (0x80 ∷ 0x40 ∷ 0x81 ∷ 0x00 ∷ []) gives done (0 ∷ 9 ∷ 9 ∷ 9 ∷ [])
-    ∷ inHead (plainBody ++ 0x00 ∷ 0x00 ∷ []) gives done (2 ∷ 5 ∷ 1 ∷ 720 ∷ 576 ∷ 1 ∷ [])
+    ∷ inHead (plainBody ++ 0x00 ∷ 0x00 ∷ []) gives done (2 ∷ 5 ∷ 0 ∷ 720 ∷ 576 ∷ 1 ∷ [])
     ∷ inHead (plainBody ++ 0x00 ∷ 0x02 ∷ []) gives no STUFFING
+    -- each field of a copyright extension at its least, and at its greatest; flag 0 with original (3) 1
+    ∷ inHead (body 12 leastCopyright) gives done (4 ∷ 0 ∷ 0 ∷ 0 ∷ 0 ∷ [])
+    ∷ inHead (body 12 greatestCopyright) gives done (4 ∷ 1 ∷ 255 ∷ 1 ∷ 18446744073709551615 ∷ [])
+    ∷ inHead (body 12 (changed 3 1 leastCopyright)) gives done (4 ∷ 0 ∷ 0 ∷ 1 ∷ 0 ∷ [])
     -- copyright anywhere; its number by parts; reserved bits (4) may be anything
-    ∷ inHead copyrightBody gives done (4 ∷ 1 ∷ 165 ∷ 1 ∷ 1311761958353192295 ∷ [])
-    ∷ afterPicture copyrightBody gives done (4 ∷ 1 ∷ 165 ∷ 1 ∷ 1311761958353192295 ∷ [])
-    ∷ copyrightIs 1 1 0 0 4194303 gives done (4 ∷ 1 ∷ 1 ∷ 1 ∷ 4194303 ∷ [])
-    ∷ copyrightIs 1 1 0 1 0 gives done (4 ∷ 1 ∷ 1 ∷ 1 ∷ 4194304 ∷ [])
-    ∷ copyrightIs 1 1 0 4194303 0 gives done (4 ∷ 1 ∷ 1 ∷ 1 ∷ 17592181850112 ∷ [])
-    ∷ copyrightIs 1 1 1 0 0 gives done (4 ∷ 1 ∷ 1 ∷ 1 ∷ 17592186044416 ∷ [])
-    ∷ copyrightIs 1 255 1048575 4194303 4194303 gives done (4 ∷ 1 ∷ 255 ∷ 1 ∷ 18446744073709551615 ∷ [])
+    ∷ inHead copyrightBody gives done (4 ∷ 1 ∷ 165 ∷ 0 ∷ 1311761958353192295 ∷ [])
+    ∷ afterPicture copyrightBody gives done (4 ∷ 1 ∷ 165 ∷ 0 ∷ 1311761958353192295 ∷ [])
+    ∷ copyrightIs 1 1 0 0 4194303 gives done (4 ∷ 1 ∷ 1 ∷ 0 ∷ 4194303 ∷ [])
+    ∷ copyrightIs 1 1 0 1 0 gives done (4 ∷ 1 ∷ 1 ∷ 0 ∷ 4194304 ∷ [])
+    ∷ copyrightIs 1 1 0 4194303 0 gives done (4 ∷ 1 ∷ 1 ∷ 0 ∷ 17592181850112 ∷ [])
+    ∷ copyrightIs 1 1 1 0 0 gives done (4 ∷ 1 ∷ 1 ∷ 0 ∷ 17592186044416 ∷ [])
+    ∷ copyrightIs 1 255 1048575 4194303 4194303 gives done (4 ∷ 1 ∷ 255 ∷ 0 ∷ 18446744073709551615 ∷ [])
     ∷ statuses (copyrightWith 4) (0 ∷ 127 ∷ []) gives done (0 ∷ 0 ∷ [])
     -- flag 0 with owner not 0; owner 0 with number not 0, in any part
-    ∷ copyrightIs 0 0 0 0 0 gives done (4 ∷ 0 ∷ 0 ∷ 1 ∷ 0 ∷ [])
+    ∷ copyrightIs 0 0 0 0 0 gives done (4 ∷ 0 ∷ 0 ∷ 0 ∷ 0 ∷ [])
     ∷ copyrightIs 0 1 0 0 0 gives no VALUE
     ∷ copyrightIs 0 128 0 0 0 gives no VALUE
-    ∷ copyrightIs 1 0 0 0 0 gives done (4 ∷ 1 ∷ 0 ∷ 1 ∷ 0 ∷ [])
-    ∷ copyrightIs 1 1 0 0 0 gives done (4 ∷ 1 ∷ 1 ∷ 1 ∷ 0 ∷ [])
+    ∷ copyrightIs 1 0 0 0 0 gives done (4 ∷ 1 ∷ 0 ∷ 0 ∷ 0 ∷ [])
+    ∷ copyrightIs 1 1 0 0 0 gives done (4 ∷ 1 ∷ 1 ∷ 0 ∷ 0 ∷ [])
     ∷ copyrightIs 1 0 0 0 1 gives no VALUE
     ∷ copyrightIs 1 0 0 1 0 gives no VALUE
     ∷ copyrightIs 1 0 1 0 0 gives no VALUE
@@ -550,8 +582,8 @@ grammarLimits =
     ∷ partOf (1 ∷ 2 ∷ 3 ∷ 4 ∷ 5 ∷ 6 ∷ 7 ∷ 8 ∷ []) (0 ∷ 0 ∷ 1 ∷ 0 ∷ 1 ∷ 2 ∷ []) 1 gives done (6 ∷ 7 ∷ [])
     ∷ partOf (1 ∷ 2 ∷ 3 ∷ 4 ∷ 5 ∷ 6 ∷ 7 ∷ 8 ∷ []) (0 ∷ 2 ∷ 3 ∷ []) 0 gives done []
     -- group g, counted from 0; NO ROW; the stream's refusal first
-    ∷ groupIs (twoGroups sequenceEnd) 0 gives done (0x48 ∷ 0x40 ∷ 0 ∷ 1920 ∷ 1080 ∷ 1 ∷ 1 ∷ 3 ∷ 3 ∷ 20000 ∷ 0 ∷ 64 ∷ 2 ∷ 5 ∷ 1 ∷ 720 ∷ 576 ∷ 1 ∷ 9 ∷ 4 ∷ 5 ∷ [])
-    ∷ groupIs (twoGroups sequenceEnd) 1 gives done (72 ∷ 65 ∷ 1 ∷ 720 ∷ 576 ∷ 2 ∷ 1 ∷ 3 ∷ 4 ∷ 886432 ∷ 1 ∷ 200000 ∷ [])
+    ∷ groupIs (twoGroups sequenceEnd) 0 gives done (0x48 ∷ 0x40 ∷ 0 ∷ 1920 ∷ 1080 ∷ 1 ∷ 1 ∷ 3 ∷ 3 ∷ 20000 ∷ 0 ∷ 64 ∷ 2 ∷ 6 ∷ 0 ∷ 9 ∷ 4 ∷ 5 ∷ 1280 ∷ 704 ∷ 1 ∷ [])
+    ∷ groupIs (twoGroups sequenceEnd) 1 gives done (72 ∷ 65 ∷ 1 ∷ 720 ∷ 576 ∷ 2 ∷ 1 ∷ 3 ∷ 4 ∷ 1935008 ∷ 0 ∷ 200000 ∷ [])
     ∷ groupIs (twoGroups sequenceEnd) 2 gives no NO-ROW
     ∷ groupIs (twoGroups []) 2 gives refused UNENDED (86 ∷ [])
     ∷ []
