@@ -44,7 +44,7 @@ def exported():
 
 
 def source_structs():
-    text = open("crates/avsplus/src/lib.rt").read() + open("crates/aec/src/lib.rt").read()
+    text = "".join(open(f"crates/{name}/src/lib.rt").read() for name in ("avsplus", "aec", "contexts"))
     for name, body in re.findall(r"#\[repr\(C\)\]\npub struct (\w+) \{(.*?)\n\}", text, re.S):
         yield name, [re.match(r"pub (\w+): (\w+),", line.strip()).groups() for line in body.strip().split("\n")]
 

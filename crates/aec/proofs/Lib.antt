@@ -1,8 +1,8 @@
-pub mod LawsAnswers
-pub mod LawsRanges
-pub mod LawsShifts
-pub mod LawsContexts
-pub mod LawsSteps
-pub mod LawsGood
-pub mod LawsEnds
+pub mod AnswerLaws
+pub mod RangeLaws
+pub mod ShiftLaws
+pub mod PairLaws
+pub mod StepLaws
+pub mod GoodLaws
+pub mod Theorems
 pub mod Main

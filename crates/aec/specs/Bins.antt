@@ -1,5 +1,5 @@
--- Document 01, "Bins", in the document's order. A state's rs, rt, vs and vt are its rS, rT, valueS and valueT.
-use Prim.Native.Nat.{ℕ, _+_, _-_, _*_, _/_, _%_, _^_, min}
+-- Document 01, "Bins", in the document's order; a context's ranges and update are of the crate contexts. A state's rs, rt, vs and vt are its rS, rT, valueS and valueT.
+use Prim.Native.Nat.{ℕ, _+_, _-_, _*_, _/_, _%_}
 use mathlib.Core.List.{List, [], _∷_}
 use mathlib.Core.Bool.{Bool, true, cond, _&&_, _||_}
 use lib.ListN.{length, drop}
@@ -7,24 +7,18 @@ use lib.Dec.{leb, ltb, eqb}
 use Rattle.answers.specs.Answers.{Outcome, done, refused, andThen, TOO-LONG, BAD-STATE, PAYLOAD-OUT}
 use Rattle.answers.specs.Limits.{longestPayload, mostBits}
 use Rattle.bits.specs.Bits.{payload, readAt, readOr}
+use Rattle.contexts.specs.Contexts.{goodContext, updateOf}
+use Rattle.contexts.specs.declared.Context.{Context}
 use Rattle.aec.specs.declared.State.{State}
-use Rattle.aec.specs.declared.Context.{Context}
 use Rattle.aec.specs.declared.Shift.{Shift}
 use Rattle.aec.specs.declared.Split.{Split}
 use Rattle.aec.specs.declared.Prediction.{Prediction}
 
--- ── "Ranges" and "A fresh context" ──
+-- ── "Ranges" ──
 
 -- a state within its ranges, where the payload has `end` bits
 unfoldable pub goodState : ℕ → State → Bool
 goodState end x = leb (x .rs) (x .vs) && leb (x .vs) mostBits && leb (x .rt) 255 && leb (x .vt) 255 && leb (x .place) end
-
--- a context within its ranges
-unfoldable pub goodContext : Context → Bool
-goodContext c = leb (c .mps) 1 && leb 4 (c .lg) && leb (c .lg) 1023 && leb (c .cycno) 3
-
-abbrev pub freshContext : Context
-freshContext = record { mps = 0; lg = 1023; cycno = 0 }
 
 -- ── The order on payloads: TOO LONG, BAD STATE, then what the bits meet ──
 
@@ -128,37 +122,6 @@ bypassOf bytes count x = plainOf bytes count x 1023
 
 abbrev pub stuffingOf : List ℕ → ℕ → State → Outcome (ℕ × State)
 stuffingOf bytes count x = plainOf bytes count x 4
-
--- ── "Update" ──
-
--- w by the cycno: "3 for 0 or 1, 4 for 2, 5 for 3"
-unfoldable pub rateOf : ℕ → ℕ
-rateOf cycno = cond (leb cycno 1) 3 (cond (eqb cycno 2) 4 5)
-
--- cycno after a bin that was mps (a hit), or was not: "up by one, at most 3"
-unfoldable pub nextCycno : Bool → ℕ → ℕ
-nextCycno hit cycno = cond hit (cond (eqb cycno 0) 1 cycno) (min 3 (cycno + 1))
-
--- lg after a bin that was mps: it "loses lg/2^w and lg/2^(w+2)"
-unfoldable pub nextLg : ℕ → ℕ → ℕ
-nextLg w lg = lg - lg / 2 ^ w - lg / 2 ^ (w + 2)
-
--- what lg gains otherwise: "197, 95 or 46 for w 3, 4, 5"
-unfoldable pub gainOf : ℕ → ℕ
-gainOf w = cond (eqb w 3) 197 (cond (eqb w 4) 95 46)
-
--- "if over 1023 becomes 2047 - lg and mps flips"
-unfoldable pub foldOf : Context → Context
-foldOf c = cond (leb (c .lg) 1023) c (record { mps = 1 - c .mps; lg = 2047 - c .lg; cycno = c .cycno })
-
--- w is that of the cycno before the step
-unfoldable pub updateOf : Context → ℕ → Context
-updateOf c bin =
-    let hit = eqb bin (c .mps) in
-    let w = rateOf (c .cycno) in
-    let cycno = nextCycno hit (c .cycno) in
-    cond hit (record { mps = c .mps; lg = nextLg w (c .lg); cycno = cycno })
-    (foldOf (record { mps = c .mps; lg = c .lg + gainOf w; cycno = cycno }))
 
 -- ── One bin with its contexts, which "are then updated" ──
 

@@ -3,7 +3,7 @@ use Prim.Native.Nat.{ℕ}
 use mathlib.Core.List.{[]}
 use Rattle.answers.specs.Answers.{Outcome, done, refused, TOO-LONG, BAD-STATE, PAYLOAD-OUT}
 use Rattle.aec.specs.declared.State.{State}
-use Rattle.aec.specs.declared.Context.{Context}
+use Rattle.contexts.specs.declared.Context.{Context}
 use Rattle.aec.specs.declared.Refusal.{Refusal}
 use Rattle.aec.specs.declared.Refusal.the-variants as refusal
 use Rattle.aec.specs.declared.Started.{Started}

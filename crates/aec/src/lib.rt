@@ -1,19 +1,20 @@
 // The arithmetic bin decoder, by value.
 ghost use mathlib.Core.Path.{_≡_};
-ghost use mathlib.Core.Bool.{true, _&&_};
+ghost use mathlib.Core.Bool.{true};
 ghost use Prim.Native.Nat.{_*_, _/_, _≤_, _<_};
 ghost use lib.ListN.{length, drop};
 ghost use Rattle.answers.specs.Limits.{longestPayload, mostBits};
 ghost use Rattle.bits.specs.Bits.{payload};
-ghost use Rattle.aec.specs.Bins.{goodState, goodContext, freshContext, refusedFirst};
+ghost use Rattle.contexts.specs.Contexts.{goodContext};
+ghost use Rattle.aec.specs.Bins.{goodState, refusedFirst};
 ghost use Rattle.aec.specs.Bins.{doubleOf, normaliseOf, widenOf, settleOf, startOf};
 ghost use Rattle.aec.specs.Bins.{splitOf, missesOf, remainderOf, unpredictedOf, binOf};
 ghost use Rattle.aec.specs.Bins.{pairOf, plainOf, bypassOf, stuffingOf, decodeOf, decodePairOf};
-ghost use Rattle.aec.specs.Bins.{rateOf, gainOf, nextLg, nextCycno, updateOf};
 ghost use Rattle.aec.specs.Says.{startedSays, steppedSays, decodedSays, decodedPairSays};
 ghost use Rattle.aec.specs.Inside.{checkedSays, doubledSays, shiftedSays, SplitRanges};
 use bits::Bit;
 use bits::Read;
+use contexts::Context;
 
 // Document 01's rS, rT, valueS and valueT, and the place of the next bit.
 #[repr(C)]
@@ -23,14 +24,6 @@ pub struct State {
     pub vs: u32,
     pub vt: u32,
     pub place: usize,
-}
-
-// Document 01's mps, the likelier bin, with lg and cycno.
-#[repr(C)]
-pub struct Context {
-    pub mps: u32,
-    pub lg: u32,
-    pub cycno: u32,
 }
 
 // Of a refusal the answer carries nothing else: state and contexts are the caller's own.
@@ -105,17 +98,6 @@ const LIMIT: usize = 65536;
 // The most bits of a payload.
 const MOST_BITS: u32 = 524288;
 
-// A fresh context.
-pub fn fresh() -> Context
-    ensures { λ r. ⌜ r ≡ freshContext ⌝ }
-{
-    Context {
-        mps: 0,
-        lg: 1023,
-        cycno: 0,
-    }
-}
-
 fn good_state(x: State, end: usize) -> bool
     ensures { λ r. ⌜ r ≡ goodState end x ⌝ }
 {
@@ -132,24 +114,6 @@ fn good_state(x: State, end: usize) -> bool
         return false;
     }
     if end < x.place {
-        return false;
-    }
-    true
-}
-
-fn good_context(c: Context) -> bool
-    ensures { λ r. ⌜ r ≡ goodContext c ⌝ }
-{
-    if 1 < c.mps {
-        return false;
-    }
-    if c.lg < 4 {
-        return false;
-    }
-    if 1023 < c.lg {
-        return false;
-    }
-    if 3 < c.cycno {
         return false;
     }
     true
@@ -406,117 +370,32 @@ fn pair(a: Context, b: Context) -> Prediction
     Prediction { p: b.mps, lg }
 }
 
-// w, by the cycno.
-fn rate(cycno: u32) -> u32
-    ensures { λ r. ⌜ r ≡ rateOf cycno ⌝ }
-{
-    if cycno <= 1 {
-        return 3;
-    }
-    if cycno == 2 { 4 } else { 5 }
-}
-
-// What lg gains where the bin was not the context's mps.
-fn gain(w: u32) -> u32
-    ensures { λ r. ⌜ r ≡ gainOf w ⌝ }
-{
-    if w == 3 {
-        return 197;
-    }
-    if w == 4 { 95 } else { 46 }
-}
-
-// The next lg where the bin was the context's mps.
-fn next_lg(w: u32, lg: u32) -> u32
-    requires { ⌜ (3 ≤ w) × (w ≤ 5) ⌝ }
-    ensures { λ r. ⌜ r ≡ nextLg w lg ⌝ }
-{
-    lg - (lg >> w) - (lg >> (w + 2))
-}
-
-// The next cycno; hit says that the bin was the context's mps.
-fn next_cycno(hit: bool, cycno: u32) -> u32
-    requires { ⌜ cycno ≤ 3 ⌝ }
-    ensures { λ r. ⌜ r ≡ nextCycno hit cycno ⌝ }
-{
-    if hit {
-        if cycno == 0 {
-            return 1;
-        }
-        return cycno;
-    }
-    if cycno < 3 { cycno + 1 } else { 3 }
-}
-
-// A context after a bin. The rate goes by the cycno before.
-fn updated(c: Context, bin: u32) -> Context
-    requires { ⌜ goodContext c ≡ true ⌝ }
-    ensures { λ r. ⌜ r ≡ updateOf c bin ⌝ }
-{
-    let mps = c.mps;
-    let lg = c.lg;
-    let cycno = c.cycno;
-    let hit = bin == mps;
-    let next = next_cycno(hit, cycno);
-    let w = rate(cycno);
-    if hit {
-        return Context {
-            mps: mps,
-            lg: next_lg(w, lg),
-            cycno: next,
-        };
-    }
-    let more = lg + gain(w);
-    if more <= 1023 {
-        return Context {
-            mps: mps,
-            lg: more,
-            cycno: next,
-        };
-    }
-    Context {
-        mps: 1 - mps,
-        lg: 2047 - more,
-        cycno: next,
-    }
-}
-
 // A bin of one context.
 pub fn decode(bytes: &[u8], count: usize, x: State, c: Context) -> Decoded
     ensures { λ r. ⌜ decodedSays r ≡ decodeOf (now (bytes .entry)) count x c ⌝ }
 {
-    match guard(bytes, count, x, good_context(c)) {
+    match guard(bytes, count, x, contexts::good_context(c)) {
         Checked::Fine => match step(bytes, count, x, c.mps, split_range(x, c.lg)) {
-            Stepped::Done(bin, next) => Decoded::Done(bin, next, updated(c, bin)),
+            Stepped::Done(bin, next) => Decoded::Done(bin, next, contexts::updated(c, bin)),
             Stepped::Refused(r) => Decoded::Refused(r),
         },
         Checked::Refused(r) => Decoded::Refused(r),
     }
 }
 
-// Whether two contexts are within their ranges.
-fn good_pair(a: Context, b: Context) -> bool
-    ensures { λ r. ⌜ r ≡ (goodContext a && goodContext b) ⌝ }
-{
-    if good_context(a) {
-        return good_context(b);
-    }
-    false
-}
-
 // A bin of two contexts. Both are updated.
 pub fn decode_pair(bytes: &[u8], count: usize, x: State, a: Context, b: Context) -> DecodedPair
     ensures { λ r. ⌜ decodedPairSays r ≡ decodePairOf (now (bytes .entry)) count x a b ⌝ }
 {
-    match guard(bytes, count, x, good_pair(a, b)) {
+    match guard(bytes, count, x, contexts::good_pair(a, b)) {
         Checked::Fine => {
             let g = pair(a, b);
             match step(bytes, count, x, g.p, split_range(x, g.lg)) {
                 Stepped::Done(bin, next) => DecodedPair::Done(
                     bin,
                     next,
-                    updated(a, bin),
-                    updated(b, bin),
+                    contexts::updated(a, bin),
+                    contexts::updated(b, bin),
                 ),
                 Stepped::Refused(r) => DecodedPair::Refused(r),
             }

@@ -1,3 +1,3 @@
 -- The laws of answers, for every crate above.
-pub mod Outcomes
-pub mod Results
+pub mod OutcomeLaws
+pub mod ResultLaws

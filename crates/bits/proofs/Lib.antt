@@ -1,5 +1,6 @@
-pub mod Lists
-pub mod Laws
-pub mod Reading
-pub mod Packing
+pub mod ListLaws
+pub mod TestLaws
+pub mod BitLaws
+pub mod ReadLaws
+pub mod PackingLaws
 pub mod Main

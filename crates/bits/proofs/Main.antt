@@ -7,9 +7,9 @@ use lib.ListN.{length, take, drop}
 use Rattle.bits.specs.Lists.{All}
 use Rattle.bits.specs.Bits.{bitsIn, payload, readAt, pack}
 use Rattle.bits.specs.declared.Read.the-variants.{Value, Missing}
-use Rattle.bits.proofs.Laws.{Binary}
-use Rattle.bits.proofs.Packing.{packed-payload}
-use Rattle.bits.proofs.Reading as proof
+use Rattle.bits.proofs.BitLaws.{Binary}
+use Rattle.bits.proofs.PackingLaws.{packed-payload}
+use Rattle.bits.proofs.ReadLaws as proof
 
 -- The fact that carries reading, for every width: a read gives n exactly where the bits from its place on are those that write n.
 pub read-exactly : (bytes : List ℕ) (count place width n : ℕ) →

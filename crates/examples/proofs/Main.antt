@@ -19,7 +19,8 @@ use Rattle.groups.specs.Reader.{displayIn, groupIn, groupAt}
 use Rattle.payload.specs.Escape.{kept, copied, removal}
 use Rattle.payload.specs.Golomb.{standsFor}
 use Rattle.payload.specs.Reader.{zerosOn, golomb, signedGolomb}
-use Rattle.aec.specs.Bins.{goodState, goodContext, withinLimit, refusedFirst, doubleOf, shifts, startOf, splitOf, missesOf, remainderOf, unpredictedOf, stepOf, pairOf, rateOf, nextCycno, nextLg, gainOf, foldOf, updateOf, decodeOf, decodePairOf}
+use Rattle.contexts.specs.Contexts.{goodContext, rateOf, nextCycno, nextLg, gainOf, foldOf, updateOf}
+use Rattle.aec.specs.Bins.{goodState, withinLimit, refusedFirst, doubleOf, shifts, startOf, splitOf, missesOf, remainderOf, unpredictedOf, stepOf, pairOf, decodeOf, decodePairOf}
 use Rattle.examples.specs.Examples.{Example, examples, Holds, bins}
 use Rattle.examples.specs.Limits.{limits, writtenOn, bytesIn, changed}
 

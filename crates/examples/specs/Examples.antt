@@ -14,9 +14,10 @@ use Rattle.grammar.specs.Rows.{Row, words}
 use Rattle.grammar.specs.Reader.{filingInto}
 use Rattle.payload.specs.Escape.{removal, outputAfter}
 use Rattle.payload.specs.Reader.{golomb, signedGolomb}
-use Rattle.aec.specs.Bins.{freshContext, startOf, decodeOf}
+use Rattle.contexts.specs.Contexts.{freshContext}
+use Rattle.aec.specs.Bins.{startOf, decodeOf}
 use Rattle.aec.specs.declared.State.{State}
-use Rattle.aec.specs.declared.Context.{Context}
+use Rattle.contexts.specs.declared.Context.{Context}
 
 -- an answer: numbers in document 01's order, one signed number, or the kind of a unit
 pub data Told : Type 0 where

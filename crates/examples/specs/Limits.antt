@@ -28,9 +28,10 @@ use Rattle.groups.specs.declared.Display.{Display}
 use Rattle.groups.specs.declared.Display.the-variants as shown
 use Rattle.payload.specs.Golomb.{standsFor}
 use Rattle.payload.specs.Reader.{golomb}
-use Rattle.aec.specs.Bins.{startOf, pairOf, bypassOf, stuffingOf, updateOf, decodeOf, decodePairOf}
+use Rattle.contexts.specs.Contexts.{updateOf}
+use Rattle.aec.specs.Bins.{startOf, pairOf, bypassOf, stuffingOf, decodeOf, decodePairOf}
 use Rattle.aec.specs.declared.State.{State}
-use Rattle.aec.specs.declared.Context.{Context}
+use Rattle.contexts.specs.declared.Context.{Context}
 use Rattle.examples.specs.Examples.{Example, _gives_, _stands-for_, _is-a_, header, unescaped, signedNumber, stateNumbers, contextNumbers}
 
 -- ── answers ──

@@ -11,9 +11,9 @@ use native.Mathlib.Omega.{arith}
 use Rattle.answers.specs.Answers.{Outcome, done, refused, OneToOne, FULL}
 use Rattle.answers.specs.Limits.{longestStream}
 use Rattle.answers.specs.Results.{good, bad, mapGood}
-use Rattle.answers.proofs.Outcomes.{undone}
-use Rattle.answers.proofs.Results.{not-good, not-bad, good-same, bad-same}
-use Rattle.bits.proofs.Lists.{by-test}
+use Rattle.answers.proofs.OutcomeLaws.{undone}
+use Rattle.answers.proofs.ResultLaws.{not-good, not-bad, good-same, bad-same}
+use Rattle.bits.proofs.TestLaws.{by-test}
 use Rattle.layout.specs.Answers.{faultNumber}
 use Rattle.layout.specs.declared.Fault.{Fault}
 use Rattle.layout.specs.declared.Fault.the-variants as fault
@@ -29,7 +29,7 @@ use Rattle.grammar.specs.declared.Reason.{Reason as Inner}
 use Rattle.grammar.specs.declared.Reason.the-variants as inner
 use Rattle.grammar.proofs.Filing.{walked-iff, said-done}
 use Rattle.grammar.proofs.Refusals.{said-refused, said-iff, stopped-iff, into-stopped-iff}
-use Rattle.grammar.proofs.RowLengths.{rows-length, units-length}
+use Rattle.grammar.proofs.RowLaws.{rows-length, units-length}
 use Rattle.grammar.proofs.Unique.{same-reading}
 use Rattle.filing.specs.Filing.{reasonNumber, totals, wordsAfter, filingSays, checkedSays, ReadingOf, FiledByReading}
 use Rattle.filing.specs.Reader.{filed}

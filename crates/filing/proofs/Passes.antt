@@ -9,8 +9,8 @@ use native.Mathlib.Numerals.{add-one, add-two}
 use native.Mathlib.Omega.{arith}
 use Rattle.answers.specs.Limits.{longestStream}
 use Rattle.answers.specs.Results.{Result, good, bad, mapGood}
-use Rattle.answers.proofs.Results.{not-good, good-same, map-good}
-use Rattle.bits.proofs.Lists.{by-test}
+use Rattle.answers.proofs.ResultLaws.{not-good, good-same, map-good}
+use Rattle.bits.proofs.TestLaws.{by-test}
 use Rattle.startcode.specs.Prefix.{begins}
 use Rattle.grammar.specs.Grammar.{bytes}
 use Rattle.grammar.specs.Rows.{Placed, rowLength, rowsFrom, words}
@@ -18,8 +18,8 @@ use Rattle.grammar.specs.Reader.{final, Stopped, Walk, stopAt, addUnit, walkOfA
 use Rattle.grammar.specs.declared.State.{State}
 use Rattle.grammar.specs.declared.State.the-variants.{Start}
 use Rattle.grammar.specs.declared.Reason.the-variants.{NoCode, Unended}
-use Rattle.grammar.proofs.RowLengths.{rows-length}
-use Rattle.grammar.proofs.Walk.{left, left-end}
+use Rattle.grammar.proofs.RowLaws.{rows-length}
+use Rattle.grammar.proofs.WalkLaws.{left, left-end}
 use Rattle.units.proofs.Units.{Advanced}
 use Rattle.filing.specs.Filing.{wordsAfter}
 use Rattle.filing.specs.Inside.{Writable}

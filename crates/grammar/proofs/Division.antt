@@ -6,7 +6,7 @@ use mathlib.Core.List.{List, [], _∷_, _++_, map, append-assoc, map-append}
 use mathlib.Core.Bool.{Bool, true, false}
 use native.Mathlib.Omega.{arith}
 use Rattle.bits.specs.Lists.{All}
-use Rattle.bits.proofs.Lists.{by-test, contrary}
+use Rattle.bits.proofs.TestLaws.{by-test, contrary}
 use Rattle.startcode.specs.declared.Kind.the-variants as kind
 use Rattle.layout.specs.Extensions.{numbered, HasNumber}
 use Rattle.layout.specs.declared.Place.{Place}

@@ -9,9 +9,9 @@ use lib.Dec.{ltb}
 use borrow.Author.Tests.{ltb-false, le-ltb}
 use Rattle.answers.specs.Answers.{done}
 use Rattle.answers.specs.Results.{good, bad}
-use Rattle.bits.proofs.Lists.{by-test}
-use Rattle.answers.proofs.Outcomes.{not-done, done-one}
-use Rattle.answers.proofs.Results.{not-good, good-same, map-good}
+use Rattle.bits.proofs.TestLaws.{by-test}
+use Rattle.answers.proofs.OutcomeLaws.{not-done, done-one}
+use Rattle.answers.proofs.ResultLaws.{not-good, good-same, map-good}
 use Rattle.layout.specs.declared.Place.{Place}
 use Rattle.layout.specs.declared.Place.the-variants as place
 use Rattle.startcode.specs.Prefix.{begins}
@@ -24,9 +24,9 @@ use Rattle.grammar.specs.declared.Step.the-variants.{Go as go, Stop as s
 use Rattle.answers.specs.Limits.{longestStream}
 use Rattle.grammar.specs.declared.State.{State}
 use Rattle.grammar.specs.declared.State.the-variants.{Start}
-use Rattle.grammar.proofs.Cutting.{chunk, cut-units, uncut}
+use Rattle.grammar.proofs.CutLaws.{chunk, cut-units, uncut}
 use Rattle.grammar.proofs.Division.{Accepts, sound, complete}
-use Rattle.grammar.proofs.Steps.{step-sound, step-complete}
+use Rattle.grammar.proofs.StepLaws.{step-sound, step-complete}
 
 abbrev pub unitOf : Placed → StreamUnit
 unitOf m = m .unit

@@ -11,8 +11,8 @@ use native.Mathlib.Omega.{arith}
 use borrow.Author.Tests.{eqb-true, eq-eqb}
 use lib.Dec.{T, leb, eqb}
 use Rattle.answers.specs.Answers.{Outcome, done, refused, UNKNOWN}
-use Rattle.answers.proofs.Outcomes.{undone, done-one}
-use Rattle.bits.proofs.Lists.{by-test}
+use Rattle.answers.proofs.OutcomeLaws.{undone, done-one}
+use Rattle.bits.proofs.TestLaws.{by-test}
 use Rattle.startcode.specs.Kinds.{Codes, kindIn, kinds, kindOf}
 use Rattle.startcode.specs.declared.Kind.{Kind}
 use Rattle.startcode.proofs.Kind as Declaration

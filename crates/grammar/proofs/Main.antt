@@ -16,7 +16,7 @@ use Rattle.grammar.specs.declared.Reason.{Reason}
 use Rattle.grammar.proofs.Filing as filed
 use Rattle.grammar.proofs.Refusals as refusals
 use Rattle.grammar.proofs.RefusalsOfUnits as stops
-use Rattle.grammar.proofs.RowLengths as lengths
+use Rattle.grammar.proofs.RowLaws as lengths
 use Rattle.grammar.proofs.Unique as unique
 
 -- ── readings ──

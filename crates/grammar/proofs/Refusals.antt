@@ -11,10 +11,10 @@ use borrow.Author.Tests.{ltb-true, ltb-false, lt-ltb, le-ltb}
 use Rattle.answers.specs.Answers.{refused}
 use Rattle.answers.specs.Limits.{longestStream}
 use Rattle.answers.specs.Results.{good, bad}
-use Rattle.answers.proofs.Outcomes.{not-refused}
-use Rattle.answers.proofs.Results.{not-bad, bad-same, map-bad}
+use Rattle.answers.proofs.OutcomeLaws.{not-refused}
+use Rattle.answers.proofs.ResultLaws.{not-bad, bad-same, map-bad}
 use Rattle.bits.specs.Lists.{All}
-use Rattle.bits.proofs.Lists.{by-test}
+use Rattle.bits.proofs.TestLaws.{by-test}
 use Rattle.startcode.specs.Prefix.{begins}
 use Rattle.grammar.specs.Lists.{concatMap}
 use Rattle.grammar.specs.Grammar.{StreamUnit, bytes, Alone, units}
@@ -28,13 +28,13 @@ use Rattle.grammar.specs.declared.State.{State}
 use Rattle.grammar.specs.declared.State.the-variants.{Start}
 use Rattle.grammar.specs.declared.Reason.{Reason}
 use Rattle.grammar.specs.declared.Reason.the-variants as reason
-use Rattle.grammar.proofs.Cutting.{No001, chunk, prefixed, chunk-alone, cut-law}
-use Rattle.grammar.proofs.Steps.{step-sound, step-complete}
+use Rattle.grammar.proofs.CutLaws.{No001, chunk, prefixed, chunk-alone, cut-law}
+use Rattle.grammar.proofs.StepLaws.{step-sound, step-complete}
 use Rattle.grammar.proofs.Filing.{walked-iff}
-use Rattle.grammar.proofs.RowLengths.{units-length}
+use Rattle.grammar.proofs.RowLaws.{units-length}
 use Rattle.grammar.proofs.Sentences.{At, start, more}
 use Rattle.grammar.proofs.Sentences as sentences
-use Rattle.grammar.proofs.Shapes.{final-iff}
+use Rattle.grammar.proofs.ShapeLaws.{final-iff}
 use Rattle.grammar.proofs.RefusalsOfUnits.{step-iff}
 use Rattle.grammar.proofs.RefusalsOfBytes.{Edge, begins-iff, not-begins-iff, cut-unit, cut-ahead, edge-chunks, uncut-ahead}
 

@@ -6,13 +6,13 @@ use mathlib.Core.List.{List, [], _∷_, _++_, map, append-assoc}
 use mathlib.Core.Bool.{true, false}
 use native.Mathlib.Omega.{arith}
 use Rattle.bits.specs.Lists.{All}
-use Rattle.bits.proofs.Lists.{by-test}
+use Rattle.bits.proofs.TestLaws.{by-test}
 use Rattle.startcode.specs.Prefix.{begins}
 use Rattle.grammar.specs.Lists.{concatMap}
 use Rattle.grammar.specs.Grammar.{StreamUnit, bytes, Alone}
 use Rattle.grammar.specs.Reader.{Cut, noCut, cut}
 use Rattle.grammar.specs.Refusals.{HasCode}
-use Rattle.grammar.proofs.Cutting.{No001, chunk, prefixed, alone-chunk, chunk-alone, suffix-clean, begins-true, cut-law, rebuilt, cleaned}
+use Rattle.grammar.proofs.CutLaws.{No001, chunk, prefixed, alone-chunk, chunk-alone, suffix-clean, begins-true, cut-law, rebuilt, cleaned}
 
 -- the stream's end, or 00 00 01
 abbrev pub Edge : List ℕ → Type 0

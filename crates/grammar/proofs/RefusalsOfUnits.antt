@@ -9,9 +9,10 @@ use lib.Dec.{leb, ltb}
 use borrow.Author.Tests.{ltb-true, leb-true, lt-ltb, le-leb}
 use Rattle.answers.specs.Answers.{done}
 use Rattle.answers.specs.Results.{Result, good, bad}
-use Rattle.answers.proofs.Results.{not-bad, good-same}
+use Rattle.answers.proofs.ResultLaws.{not-bad, good-same}
 use Rattle.bits.specs.Lists.{All}
-use Rattle.bits.proofs.Lists.{by-test, contrary, and-true, absent, all-append}
+use Rattle.bits.proofs.ListLaws.{absent, all-append}
+use Rattle.bits.proofs.TestLaws.{by-test, contrary, and-true}
 use Rattle.startcode.specs.Kinds.{kindOf}
 use Rattle.startcode.specs.declared.Kind.{Kind}
 use Rattle.startcode.specs.declared.Kind.the-variants as kind
@@ -36,11 +37,11 @@ use Rattle.grammar.specs.declared.State.the-variants.{Start, Head, Pictu
 use Rattle.grammar.specs.declared.Reason.{Reason}
 use Rattle.grammar.specs.declared.Reason.the-variants as reason
 use Rattle.grammar.proofs.KindLaws.{same-true, true-same, apart, kind-or-not}
-use Rattle.grammar.proofs.Bodies.{header-good}
+use Rattle.grammar.proofs.BodyLaws.{header-good}
 use Rattle.grammar.proofs.Division.{number-two, number-not-two}
-use Rattle.grammar.proofs.Steps.{Some, nonzero-false, false-nonzero, step-sound, step-complete}
+use Rattle.grammar.proofs.StepLaws.{Some, nonzero-false, false-nonzero, step-sound, step-complete}
 use Rattle.grammar.proofs.Sentences.{At, more, begins-iff, sentence-left, last-same, Ruled, Least, HeadSays, Says, says}
-use Rattle.grammar.proofs.Shapes.{kindsIn, Has, has-in-place, left-goes, in-place-has}
+use Rattle.grammar.proofs.ShapeLaws.{kindsIn, Has, has-in-place, left-goes, in-place-has}
 
 -- ── one rule at a time ──
 

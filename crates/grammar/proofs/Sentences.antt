@@ -8,7 +8,7 @@ use mathlib.Core.Option.{some}
 use native.Mathlib.Omega.{arith}
 use Rattle.bits.specs.Lists.{All}
 use Rattle.bits.specs.Bits.{bitsIn, bitsOf, readOn, readAt}
-use Rattle.bits.proofs.Lists.{all-append, absent}
+use Rattle.bits.proofs.ListLaws.{all-append, absent}
 use Rattle.layout.specs.Reader.{recordOf, headerResult, allows, valuesOf, judge, judged, cross, ended, reading}
 use Rattle.layout.specs.Layouts.{fields, leastBytes}
 use Rattle.layout.specs.Obeys.{AllAllowed}
@@ -31,10 +31,10 @@ use Rattle.grammar.specs.declared.SliceRule.{SliceRule}
 use Rattle.grammar.specs.declared.State.{State}
 use Rattle.grammar.specs.declared.State.the-variants.{Start, Head, Picture as InPicture, Slices, Ended, Closed}
 use Rattle.grammar.proofs.KindLaws.{apart}
-use Rattle.grammar.proofs.Bodies.{header-good}
-use Rattle.grammar.proofs.Cutting.{chunk, uncut}
+use Rattle.grammar.proofs.BodyLaws.{header-good}
+use Rattle.grammar.proofs.CutLaws.{chunk, uncut}
 use Rattle.grammar.proofs.Division.{Goes, sequence, user, extension, display, first-picture, extra, first-slice, next-slice, next-picture, next-sequence, end, edit, end-edit, Accepts, sound, complete}
-use Rattle.grammar.proofs.Steps.{Some}
+use Rattle.grammar.proofs.StepLaws.{Some}
 use Rattle.grammar.proofs.Filing.{unitOf, units-of-placed}
 use Rattle.grammar.proofs.Unique.{Shorter, compare-prefixes}
 

@@ -1,5 +1,5 @@
 -- The laws of the walk and of readings, and the theorems.
-pub mod Walk
-pub mod Readings
-pub mod Exactly
+pub mod WalkLaws
+pub mod ReadingLaws
+pub mod Theorems
 pub mod Main

@@ -11,7 +11,7 @@ use Rattle.grammar.specs.Reasons.{Numbered}
 use Rattle.grammar.specs.Refusals.{Refuses}
 use Rattle.groups.specs.Groups.{groupSays, GroupOfReading, GroupByReading}
 use Rattle.groups.specs.Reader.{groupAt}
-use Rattle.groups.proofs.Exactly as proof
+use Rattle.groups.proofs.Theorems as proof
 
 -- Of a stream within the limit and with a reading: the record of the reading's group g, or NO ROW where it has no such group.
 pub group-is : (s : List ℕ) (r : Reading) → length s ≤ longestStream → Reads s r → (g : ℕ) → GroupOfReading r g (groupAt s g)

@@ -15,9 +15,10 @@ use borrow.Author.Tests.{le-leb, lt-ltb, le-ltb}
 use Rattle.answers.specs.Answers.{done, refused, FULL, TOO-LONG}
 use Rattle.answers.specs.Limits.{longestPayload}
 use Rattle.bits.specs.Bits.{bitsIn, packOn, pack}
-use Rattle.bits.proofs.Lists.{at-head, by-test}
-use Rattle.bits.proofs.Laws.{length-in, bit-in}
-use Rattle.bits.proofs.Packing.{pack-more, pack-full, pack-none, pack-last}
+use Rattle.bits.proofs.ListLaws.{at-head}
+use Rattle.bits.proofs.TestLaws.{by-test}
+use Rattle.bits.proofs.BitLaws.{length-in, bit-in}
+use Rattle.bits.proofs.PackingLaws.{pack-more, pack-full, pack-none, pack-last}
 use Rattle.payload.specs.Escape.{kept, copied, unescaped, removal}
 use Rattle.payload.specs.Inside.{keptWidth, Partial, Pushed, Copied}
 use Rattle.payload.specs.declared.Packer.{Packer}

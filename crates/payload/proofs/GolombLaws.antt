@@ -12,11 +12,11 @@ use Rattle.answers.specs.Answers.{Outcome, done, refused, TOO-LONG, PAYLOAD-OUT
 use Rattle.answers.specs.Limits.{longestPayload}
 use Rattle.bits.specs.Bits.{payload, readAt}
 use Rattle.bits.specs.declared.Read.the-variants as read
-use Rattle.bits.proofs.Lists.{by-test}
-use Rattle.answers.proofs.Outcomes.{not-done}
-use Rattle.bits.proofs.Laws.{length-payload}
+use Rattle.bits.proofs.TestLaws.{by-test}
+use Rattle.answers.proofs.OutcomeLaws.{not-done}
+use Rattle.bits.proofs.BitLaws.{length-payload}
 use Rattle.bits.proofs.Main.{read-exactly}
-use Rattle.bits.proofs.Reading.{found-value}
+use Rattle.bits.proofs.ReadLaws.{found-value}
 use Rattle.payload.specs.Golomb.{Numbered}
 use Rattle.payload.specs.Reader.{zerosOn, golombAfter, golomb}
 use Rattle.payload.specs.declared.Zeros.{Zeros}

@@ -1,5 +1,5 @@
 pub mod EscapeLaws
 pub mod GolombLaws
-pub mod GolombExactly
-pub mod Exactly
+pub mod GolombTheorems
+pub mod Theorems
 pub mod Main

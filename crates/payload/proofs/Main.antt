@@ -10,8 +10,8 @@ use Rattle.bits.specs.Bits.{payload}
 use Rattle.payload.specs.Escape.{unescaped, removal, outputAfter, removedSays}
 use Rattle.payload.specs.Golomb.{Numbered, withSign, Coded, TooManyZeros, EndsFirst, golombSays, signedSays}
 use Rattle.payload.specs.Reader.{golomb, signedGolomb}
-use Rattle.payload.proofs.Exactly as proof
-use Rattle.payload.proofs.GolombExactly as exactly
+use Rattle.payload.proofs.Theorems as proof
+use Rattle.payload.proofs.GolombTheorems as exactly
 
 -- What removal wrote is read back as the payload's bits without its escape bits: the filling is never read.
 pub removed-payload : (raw output : List ℕ) (count : ℕ) → removal raw (length output) ≡ done count →

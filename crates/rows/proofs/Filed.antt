@@ -13,7 +13,7 @@ use Rattle.grammar.specs.Lists.{concatMap}
 use Rattle.grammar.specs.Grammar.{bytes, Reading, Reads}
 use Rattle.grammar.specs.Rows.{Row, Placed, placedUnits, kept, trimmed, isWhole, rowLength, rowsFrom, rows, words}
 use Rattle.grammar.proofs.Filing.{units-of-placed}
-use Rattle.grammar.proofs.RowLengths.{rows-length, length-le}
+use Rattle.grammar.proofs.RowLaws.{rows-length, length-le}
 use Rattle.rows.specs.Rows.{heldRow, inStream, ifInStream, existing, isRow, rowExists, partOf, rowBody}
 
 pub filed-row : (before : List Row) (r : Row) (after : List Row) (rest : List ℕ) → heldRow (words (before ++ r ∷ after) ++ rest) (length before) ≡ some r

@@ -1,3 +1,3 @@
-pub mod Laws
+pub mod RowLaws
 pub mod Filed
 pub mod Main

@@ -9,7 +9,7 @@ use lib.ListN.{length, take}
 use Rattle.grammar.specs.Grammar.{Reading, Reads}
 use Rattle.grammar.specs.Rows.{Row, Placed, placedUnits, rowLength, rows, words}
 use Rattle.rows.specs.Rows.{heldRow, isRow, rowExists, rowBody}
-use Rattle.rows.proofs.Laws as laws
+use Rattle.rows.proofs.RowLaws as laws
 use Rattle.rows.proofs.Filed as filed
 
 -- The words lent hold row i exactly when i is below a third of them, rounded down.

@@ -1,3 +1,3 @@
-pub mod Laws
-pub mod Exactly
+pub mod PrefixLaws
+pub mod Theorems
 pub mod Main

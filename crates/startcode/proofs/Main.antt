@@ -7,8 +7,8 @@ use lib.Dec.{leb, eqb}
 use Rattle.answers.specs.Answers.{OneToOne}
 use Rattle.startcode.specs.Prefix.{nextPrefix, First}
 use Rattle.startcode.specs.Kinds.{kindOf, kindSays}
-use Rattle.startcode.proofs.Exactly.{isUnknown}
-use Rattle.startcode.proofs.Exactly as proof
+use Rattle.startcode.proofs.Theorems.{isUnknown}
+use Rattle.startcode.proofs.Theorems as proof
 
 -- The search finds the first 00 00 01 at or after a place, and misses none.
 pub search-first : (stream : List ℕ) (from : ℕ) → First stream from (nextPrefix stream from)

@@ -8,7 +8,7 @@ use lib.Seq.{take-suc, take-length}
 use borrow.Author.Tests.{ne-eqb, lt-ltb, le-ltb, le-leb, lt-leb}
 use native.Mathlib.Omega.{arith}
 use Rattle.answers.specs.Answers.{done}
-use Rattle.bits.proofs.Lists.{contrary}
+use Rattle.bits.proofs.TestLaws.{contrary}
 use Rattle.layout.specs.Extensions.{numbered}
 use Rattle.layout.specs.Reader.{displayOf, extensionResult, byNumber, allZero}
 use Rattle.layout.specs.declared.Place.{Place}

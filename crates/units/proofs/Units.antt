@@ -8,7 +8,7 @@ use lib.ListN
 use lib.ListN.{length, getD, drop, length-take, length-drop}
 use borrow.Author.Tests.{eqb-true, eqb-false}
 use native.Mathlib.Omega.{arith}
-use Rattle.bits.proofs.Lists.{by-test}
+use Rattle.bits.proofs.TestLaws.{by-test}
 use Rattle.startcode.specs.Prefix.{begins, nextPrefix}
 use Rattle.layout.specs.declared.Place.{Place}
 use Rattle.grammar.specs.Grammar.{StreamUnit, bytes}
@@ -18,8 +18,8 @@ use Rattle.grammar.specs.declared.State.{State}
 use Rattle.grammar.specs.declared.Reason.the-variants as reason
 use Rattle.grammar.specs.declared.Step.{Step}
 use Rattle.grammar.specs.declared.Step.the-variants.{Go as go, Stop as stop}
-use Rattle.grammar.proofs.RowLengths.{length-le}
-use Rattle.grammar.proofs.Walk.{left, prefix-fits, chunks-cut, chunks-overlap, chunks-some, unitBetween, next-fits, chunks-unit, unit-ends, next-begins}
+use Rattle.grammar.proofs.RowLaws.{length-le}
+use Rattle.grammar.proofs.WalkLaws.{left, prefix-fits, chunks-cut, chunks-overlap, chunks-some, unitBetween, next-fits, chunks-unit, unit-ends, next-begins}
 use Rattle.units.specs.Reader.{nextOf, unitFrom, unitOf, unitAt}
 use Rattle.units.specs.declared.UnitAnswer.{UnitAnswer}
 use Rattle.units.specs.declared.UnitAnswer.the-variants as answer

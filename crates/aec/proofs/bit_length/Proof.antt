@@ -1,6 +1,6 @@
 -- The count, or eight bits for each byte where that is fewer.
 use native.Mathlib.Omega.{arith}
-use Rattle.bits.proofs.Laws.{length-payload}
+use Rattle.bits.proofs.BitLaws.{length-payload}
 use borrow.Author.Needs.{needs}
 use Rattle.aec.proofs.bit_length.Statement.{statement}
 use Rattle.aec.proofs.bit_length.Tie as tie

@@ -4,14 +4,16 @@ use mathlib.Core.Path.{_≡_, sym, ap, _∙_}
 use native.Mathlib.Omega.{arith}
 use Rattle.answers.specs.Answers.{Outcome, done}
 use Rattle.bits.specs.Bits.{payload}
-use Rattle.aec.specs.Bins.{goodContext, refusedFirst, stepOf, updateOf, decodeOf}
+use Rattle.contexts.specs.Contexts.{goodContext, updateOf}
+use Rattle.aec.specs.Bins.{refusedFirst, stepOf, decodeOf}
 use Rattle.aec.specs.Says.{steppedSays}
 use Rattle.aec.specs.Inside.{checkedSays}
 use Rattle.aec.specs.declared.State.{State}
-use Rattle.aec.specs.declared.Context.{Context}
-use Rattle.answers.proofs.Outcomes.{stops, goes-on, stops-next}
-use Rattle.aec.proofs.LawsRanges.{state-ranges, context-ranges}
-use Rattle.aec.proofs.LawsSteps.{first-held, step-is}
+use Rattle.contexts.specs.declared.Context.{Context}
+use Rattle.answers.proofs.OutcomeLaws.{stops, goes-on, stops-next}
+use Rattle.contexts.proofs.ContextLaws.{context-ranges, updated-is}
+use Rattle.aec.proofs.RangeLaws.{state-ranges}
+use Rattle.aec.proofs.StepLaws.{first-held, step-is}
 use borrow.Author.Needs.{needs}
 use Rattle.aec.proofs.decode.Statement.{statement}
 use Rattle.aec.proofs.decode.Tie as tie
@@ -60,7 +62,7 @@ enum-known-bin : tie.Need-enum-known-bin
 enum-known-bin c = search needs
 
 updated-requires : tie.Need-updated-requires
-updated-requires c κs = first-held _ _ _ _ (sym (fine (c .before .before .before .before .before))) .2
+updated-requires c κs = search needs
 
 enum-known-r : tie.Need-enum-known-r
 enum-known-r c = search needs
@@ -79,7 +81,8 @@ returns c =
     let s = k .before .before .before in
     let b = k .before .bin .given in
     let e = s .before .before .before .before .before .before .before in
-    ap (λ d. done (b .0 .0, b .0 .1 .0, d)) (c .updated .ensures)
+    let good = first-held _ _ _ _ (sym (fine (s .before .before))) .2 in
+    ap (λ d. done (b .0 .0, b .0 .1 .0, d)) (c .updated .ensures ∙ updated-is _ _ good)
     ∙ goes-on (stepping e) (updating e) (fine (s .before .before)) (b .0 .0, b .0 .1 .0) (ap steppedSays (sym (b .1)) ∙ stepped s)
 
 returns-2 : tie.Need-returns-2

@@ -5,16 +5,18 @@ use mathlib.Core.Bool.{true, _&&_}
 use native.Mathlib.Omega.{arith}
 use Rattle.answers.specs.Answers.{Outcome, done}
 use Rattle.bits.specs.Bits.{payload}
-use Rattle.bits.proofs.Lists.{and-true}
-use Rattle.aec.specs.Bins.{goodContext, refusedFirst, stepOf, pairOf, updateOf, decodePairOf}
+use Rattle.bits.proofs.TestLaws.{and-true}
+use Rattle.contexts.specs.Contexts.{goodContext, updateOf}
+use Rattle.aec.specs.Bins.{refusedFirst, stepOf, pairOf, decodePairOf}
 use Rattle.aec.specs.Says.{steppedSays}
 use Rattle.aec.specs.Inside.{checkedSays}
 use Rattle.aec.specs.declared.State.{State}
-use Rattle.aec.specs.declared.Context.{Context}
-use Rattle.answers.proofs.Outcomes.{stops, goes-on, stops-next}
-use Rattle.aec.proofs.LawsRanges.{state-ranges, context-ranges}
-use Rattle.aec.proofs.LawsContexts.{Predicts, pair-predicts}
-use Rattle.aec.proofs.LawsSteps.{first-held, step-is}
+use Rattle.contexts.specs.declared.Context.{Context}
+use Rattle.answers.proofs.OutcomeLaws.{stops, goes-on, stops-next}
+use Rattle.contexts.proofs.ContextLaws.{context-ranges, updated-is}
+use Rattle.aec.proofs.RangeLaws.{state-ranges}
+use Rattle.aec.proofs.PairLaws.{Predicts, pair-predicts}
+use Rattle.aec.proofs.StepLaws.{first-held, step-is}
 use borrow.Author.Needs.{needs}
 use Rattle.aec.proofs.decode_pair.Statement.{statement}
 use Rattle.aec.proofs.decode_pair.Tie as tie
@@ -73,10 +75,10 @@ enum-known-bin : tie.Need-enum-known-bin
 enum-known-bin c = search needs
 
 updated-requires : tie.Need-updated-requires
-updated-requires c κs = good (c .before .before .before .before .before .before) .0
+updated-requires c κs = search needs
 
 updated-requires-2 : tie.Need-updated-requires-2
-updated-requires-2 c κs = good (c .before .before .before .before .before .before .before) .1
+updated-requires-2 c κs = search needs
 
 enum-known-r : tie.Need-enum-known-r
 enum-known-r c = search needs
@@ -99,8 +101,9 @@ returns c =
     let s = k .before .before .before in
     let b = k .before .bin .given in
     let e = s .before .before .before .before .before .before .before .before in
-    ap (λ d. done (b .0 .0, b .0 .1 .0, d, c .updated2 .result)) (u .updated .ensures)
-    ∙ ap (λ d. done (b .0 .0, b .0 .1 .0, updateOf (e .args .a) (b .0 .0), d)) (c .updated2 .ensures)
+    let g = good (s .before .before .before) in
+    ap (λ d. done (b .0 .0, b .0 .1 .0, d, c .updated2 .result)) (u .updated .ensures ∙ updated-is _ _ (g .0))
+    ∙ ap (λ d. done (b .0 .0, b .0 .1 .0, updateOf (e .args .a) (b .0 .0), d)) (c .updated2 .ensures ∙ updated-is _ _ (g .1))
     ∙ goes-on (stepping e) (updating e) (fine (s .before .before .before)) (b .0 .0, b .0 .1 .0) (ap steppedSays (sym (b .1)) ∙ stepped s)
 
 returns-2 : tie.Need-returns-2

@@ -1,6 +1,6 @@
 -- Each range is tested in turn.
 use native.Mathlib.Omega.{arith}
-use Rattle.aec.proofs.LawsRanges.{ranges-state, bad-state}
+use Rattle.aec.proofs.RangeLaws.{ranges-state, bad-state}
 use Rattle.aec.proofs.good_state.Statement.{statement}
 use Rattle.aec.proofs.good_state.Tie as tie
 

@@ -5,7 +5,7 @@ use borrow.Author.Tests.{not-true, not-false}
 use lib.ListN.{length}
 use Rattle.bits.specs.Bits.{payload}
 use Rattle.aec.specs.Bins.{goodState}
-use Rattle.aec.proofs.LawsSteps.{first-long, first-bad, first-fine}
+use Rattle.aec.proofs.StepLaws.{first-long, first-bad, first-fine}
 use borrow.Author.Needs.{needs}
 use Rattle.aec.proofs.guard.Statement.{statement}
 use Rattle.aec.proofs.guard.Tie as tie

@@ -1,5 +1,5 @@
 -- s at valueS, or apart from it.
-use Rattle.aec.proofs.LawsSteps.{misses-even, misses-apart}
+use Rattle.aec.proofs.StepLaws.{misses-even, misses-apart}
 use Rattle.aec.proofs.misses.Statement.{statement}
 use Rattle.aec.proofs.misses.Tie as tie
 

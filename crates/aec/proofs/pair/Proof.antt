@@ -1,7 +1,7 @@
 -- The prediction of two contexts, by the tests of the definition.
 use native.Mathlib.Omega.{arith}
-use Rattle.aec.proofs.LawsRanges.{ContextRanges, context-ranges}
-use Rattle.aec.proofs.LawsContexts.{pair-same, pair-first, pair-second}
+use Rattle.contexts.proofs.ContextLaws.{ContextRanges, context-ranges}
+use Rattle.aec.proofs.PairLaws.{pair-same, pair-first, pair-second}
 use borrow.Author.Needs.{needs}
 use Rattle.aec.proofs.pair.Statement.{statement}
 use Rattle.aec.proofs.pair.Tie as tie

@@ -5,9 +5,9 @@ use Rattle.answers.specs.Answers.{done}
 use mathlib.Core.Bool.{true}
 use Rattle.aec.specs.Bins.{refusedFirst}
 use Rattle.aec.specs.Inside.{checkedSays}
-use Rattle.answers.proofs.Outcomes.{stops, goes}
-use Rattle.aec.proofs.LawsRanges.{state-ranges}
-use Rattle.aec.proofs.LawsSteps.{first-held, step-is}
+use Rattle.answers.proofs.OutcomeLaws.{stops, goes}
+use Rattle.aec.proofs.RangeLaws.{state-ranges}
+use Rattle.aec.proofs.StepLaws.{first-held, step-is}
 use borrow.Author.Needs.{needs}
 use Rattle.aec.proofs.plain.Statement.{statement}
 use Rattle.aec.proofs.plain.Tie as tie

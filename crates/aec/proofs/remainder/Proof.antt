@@ -6,13 +6,13 @@ use native.Mathlib.Omega.{arith}
 use lib.ListN.{drop}
 use Rattle.answers.specs.Answers.{Outcome, done}
 use Rattle.bits.specs.Bits.{payload}
-use Rattle.bits.proofs.Laws.{all-payload}
+use Rattle.bits.proofs.BitLaws.{all-payload}
 use Rattle.aec.specs.Bins.{doubleOf}
 use Rattle.aec.specs.Inside.{doubledSays}
 use Rattle.aec.specs.declared.Split.{Split}
-use Rattle.answers.proofs.Outcomes.{stops, goes}
-use Rattle.aec.proofs.LawsShifts.{Taken, taken}
-use Rattle.aec.proofs.LawsSteps.{missed, remainder-even, remainder-past}
+use Rattle.answers.proofs.OutcomeLaws.{stops, goes}
+use Rattle.aec.proofs.ShiftLaws.{Taken, taken}
+use Rattle.aec.proofs.StepLaws.{missed, remainder-even, remainder-past}
 use borrow.Author.Needs.{needs}
 use Rattle.aec.proofs.remainder.Statement.{statement}
 use Rattle.aec.proofs.remainder.Tie as tie

@@ -1,7 +1,7 @@
 -- The state of a normalised value.
 use mathlib.Core.Path.{sym, ap, _∙_}
 use Rattle.aec.specs.Inside.{shiftedSays}
-use Rattle.answers.proofs.Outcomes.{stops, goes}
+use Rattle.answers.proofs.OutcomeLaws.{stops, goes}
 use borrow.Author.Needs.{needs}
 use Rattle.aec.proofs.settle.Statement.{statement}
 use Rattle.aec.proofs.settle.Tie as tie

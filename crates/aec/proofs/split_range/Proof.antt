@@ -1,6 +1,6 @@
 -- s, t and R, by whether rT reaches q.
 use native.Mathlib.Omega.{arith}
-use Rattle.aec.proofs.LawsSteps.{split-fits, split-over}
+use Rattle.aec.proofs.StepLaws.{split-fits, split-over}
 use borrow.Author.Needs.{needs}
 use Rattle.aec.proofs.split_range.Statement.{statement}
 use Rattle.aec.proofs.split_range.Tie as tie

@@ -6,7 +6,7 @@ use Rattle.bits.specs.Bits.{payload, readOr}
 use Rattle.bits.specs.declared.Read.{Read}
 use Rattle.aec.specs.Bins.{noBit, settleOf, startOf}
 use Rattle.aec.specs.declared.State.{State}
-use Rattle.aec.proofs.LawsSteps.{limit-passed, limit-kept, nine-bits}
+use Rattle.aec.proofs.StepLaws.{limit-passed, limit-kept, nine-bits}
 use borrow.Author.Needs.{needs}
 use Rattle.aec.proofs.start.Statement.{statement}
 use Rattle.aec.proofs.start.Tie as tie

@@ -1,7 +1,7 @@
 -- A bin that was predicted, or was not.
 use mathlib.Core.Path.{sym, ap, _∙_}
 use Rattle.aec.specs.Says.{startedSays}
-use Rattle.aec.proofs.LawsSteps.{bin-hit, bin-miss, bin-stops}
+use Rattle.aec.proofs.StepLaws.{bin-hit, bin-miss, bin-stops}
 use borrow.Author.Needs.{needs}
 use Rattle.aec.proofs.step.Statement.{statement}
 use Rattle.aec.proofs.step.Tie as tie

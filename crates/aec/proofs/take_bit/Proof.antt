@@ -5,8 +5,8 @@ use mathlib.Core.List.{List, _∷_}
 use native.Mathlib.Omega.{arith}
 use lib.ListN.{length, drop}
 use Rattle.bits.specs.Bits.{payload}
-use Rattle.bits.proofs.Laws.{length-payload, all-payload, bit-read, bit-missing, bit-small, bit-inside}
-use Rattle.aec.proofs.LawsShifts.{double-bit, double-none}
+use Rattle.bits.proofs.BitLaws.{length-payload, all-payload, bit-read, bit-missing, bit-small, bit-inside}
+use Rattle.aec.proofs.ShiftLaws.{double-bit, double-none}
 use borrow.Author.Needs.{needs}
 use Rattle.aec.proofs.take_bit.Statement.{statement}
 use Rattle.aec.proofs.take_bit.Tie as tie

@@ -6,15 +6,15 @@ use native.Mathlib.Omega.{arith}
 use lib.ListN.{length}
 use Rattle.answers.specs.Answers.{Outcome, done}
 use Rattle.bits.specs.Bits.{payload}
-use Rattle.bits.proofs.Laws.{all-payload}
+use Rattle.bits.proofs.BitLaws.{all-payload}
 use Rattle.aec.specs.Bins.{remainderOf, widenOf, settleOf, unpredictedOf}
 use Rattle.aec.specs.Inside.{doubledSays, shiftedSays}
 use Rattle.aec.specs.declared.Shift.{Shift}
 use Rattle.aec.specs.declared.State.{State}
-use Rattle.answers.proofs.Outcomes.{stops, goes-on, stops-next}
-use Rattle.aec.proofs.LawsRanges.{StateRanges, state-ranges}
-use Rattle.aec.proofs.LawsShifts.{widened}
-use Rattle.aec.proofs.LawsSteps.{remainder-within}
+use Rattle.answers.proofs.OutcomeLaws.{stops, goes-on, stops-next}
+use Rattle.aec.proofs.RangeLaws.{StateRanges, state-ranges}
+use Rattle.aec.proofs.ShiftLaws.{widened}
+use Rattle.aec.proofs.StepLaws.{remainder-within}
 use borrow.Author.Needs.{needs}
 use Rattle.aec.proofs.unpredicted.Statement.{statement}
 use Rattle.aec.proofs.unpredicted.Tie as tie

@@ -9,11 +9,11 @@ use lib.Dec.{leb}
 use lib.ListN.{length, drop}
 use Rattle.answers.specs.Answers.{done}
 use Rattle.bits.specs.Bits.{payload}
-use Rattle.bits.proofs.Laws.{all-payload}
+use Rattle.bits.proofs.BitLaws.{all-payload}
 use Rattle.aec.specs.Bins.{doubleOf, shifts, widenOf}
 use Rattle.aec.specs.Inside.{doubledSays}
 use Rattle.aec.specs.declared.Shift.{Shift}
-use Rattle.aec.proofs.LawsShifts.{Taken, taken, loop-on, loop-stops, loop-ends}
+use Rattle.aec.proofs.ShiftLaws.{Taken, taken, loop-on, loop-stops, loop-ends}
 use borrow.Author.Needs.{needs}
 use Rattle.aec.proofs.widen.Statement.{statement}
 use Rattle.aec.proofs.widen.Tie as tie

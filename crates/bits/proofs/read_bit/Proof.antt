@@ -7,7 +7,7 @@ use lib.Bits.{and-mask}
 use lib.ListN.{length}
 use Rattle.bits.specs.Bits.{payload}
 use Rattle.bits.specs.declared.Bit.the-variants.{Is}
-use Rattle.bits.proofs.Laws.{payload-end, payload-bit, bit-here, bit-none}
+use Rattle.bits.proofs.BitLaws.{payload-end, payload-bit, bit-here, bit-none}
 use Rattle.bits.proofs.read_bit.Statement.{statement}
 use Rattle.bits.proofs.read_bit.Tie as tie
 

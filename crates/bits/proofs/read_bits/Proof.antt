@@ -10,7 +10,7 @@ use borrow.Author.Tests.{le-leb, lt-leb}
 use lib.ListN.{length, drop}
 use lib.Pow.{pow-mono}
 use Rattle.bits.specs.Bits.{payload, readOn, readAt}
-use Rattle.bits.proofs.Laws.{length-payload, all-payload, bit-read, bit-missing, bit-small, bit-inside, read-step, read-end}
+use Rattle.bits.proofs.BitLaws.{length-payload, all-payload, bit-read, bit-missing, bit-small, bit-inside, read-step, read-end}
 use Rattle.bits.proofs.read_bits.Statement.{statement}
 use Rattle.bits.proofs.read_bits.Tie as tie
 use Rattle.bits.proofs.read_bits.Reads as reads

@@ -5,7 +5,7 @@ use mathlib.Core.List.{List}
 use native.Mathlib.Omega.{arith}
 use borrow.Author.Needs.{needs}
 use lib.ListN.{length}
-use Rattle.answers.proofs.Results.{not-bad}
+use Rattle.answers.proofs.ResultLaws.{not-bad}
 use Rattle.units.specs.declared.UnitAnswer.{UnitAnswer}
 use Rattle.units.proofs.Units.{Advanced, Left, what-is-left}
 use Rattle.filing.proofs.Passes.{Writing, writing-start, writing-room, writing-next, writing-end}

@@ -9,7 +9,7 @@ use Rattle.groups.specs.Reader.{displayIn}
 use Rattle.groups.specs.Inside.{displayBy, unitsFrom}
 use Rattle.groups.specs.declared.Display.{Display}
 use Rattle.groups.specs.declared.InHead.{InHead}
-use Rattle.groups.proofs.Walk.{Walked, walked, units-end, units-over, Showing, show-end, show-next}
+use Rattle.groups.proofs.WalkLaws.{Walked, walked, units-end, units-over, Showing, show-end, show-next}
 use Rattle.groups.proofs.display_from.Statement.{statement}
 use Rattle.groups.proofs.display_from.Tie as tie
 

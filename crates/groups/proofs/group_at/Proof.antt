@@ -2,7 +2,7 @@
 use mathlib.Core.Path.{sym, ap, _∙_}
 use borrow.Author.Needs.{needs}
 use Rattle.filing.specs.Filing.{checkedSays}
-use Rattle.groups.proofs.Exactly.{here-start, at-good, at-refused}
+use Rattle.groups.proofs.Theorems.{here-start, at-good, at-refused}
 use Rattle.groups.proofs.group_at.Statement.{statement}
 use Rattle.groups.proofs.group_at.Tie as tie
 

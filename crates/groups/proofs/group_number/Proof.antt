@@ -6,7 +6,7 @@ use native.Mathlib.Omega.{arith}
 use borrow.Author.Needs.{needs}
 use lib.ListN.{length}
 use Rattle.groups.specs.Inside.{unitsFrom}
-use Rattle.groups.proofs.Walk.{Walked, walked, units-end, units-over, Counting, count-end, count-other, count-group, count-found}
+use Rattle.groups.proofs.WalkLaws.{Walked, walked, units-end, units-over, Counting, count-end, count-other, count-group, count-found}
 use Rattle.groups.proofs.group_number.Statement.{statement}
 use Rattle.groups.proofs.group_number.Tie as tie
 

@@ -10,7 +10,7 @@ use Rattle.startcode.specs.declared.Kind.{Kind}
 use Rattle.startcode.specs.declared.Kind.the-variants as kind
 use Rattle.grammar.specs.Reader.{kindIndex, sameKind}
 use Rattle.grammar.proofs.KindLaws.{last-arm}
-use Rattle.groups.proofs.Walk.{ends-head}
+use Rattle.groups.proofs.WalkLaws.{ends-head}
 use Rattle.groups.proofs.head_unit.Statement.{statement}
 use Rattle.groups.proofs.head_unit.Tie as tie
 

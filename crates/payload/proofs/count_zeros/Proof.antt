@@ -7,7 +7,7 @@ use borrow.Author.Needs.{needs}
 use borrow.Author.Tests.{eq-eqb}
 use lib.ListN.{length, drop}
 use Rattle.bits.specs.Bits.{payload}
-use Rattle.bits.proofs.Laws.{length-payload, bit-read, bit-missing, bit-inside}
+use Rattle.bits.proofs.BitLaws.{length-payload, bit-read, bit-missing, bit-inside}
 use Rattle.payload.specs.Reader.{zerosOn}
 use Rattle.payload.proofs.GolombLaws.{zerosFrom, zeros-more, zeros-one, zeros-out}
 use Rattle.payload.proofs.count_zeros.Statement.{statement}

@@ -6,7 +6,7 @@ use native.Mathlib.Omega.{arith}
 use borrow.Author.Needs.{needs}
 use lib.ListN.{length, take, drop, take-append-drop}
 use lib.Seq.{set-split}
-use Rattle.bits.proofs.Packing.{pack-none, pack-last}
+use Rattle.bits.proofs.PackingLaws.{pack-none, pack-last}
 use Rattle.payload.proofs.EscapeLaws.{last-lt, last-is, filled-none, filled-last}
 use Rattle.payload.proofs.fill_last.Statement.{statement}
 use Rattle.payload.proofs.fill_last.Tie as tie

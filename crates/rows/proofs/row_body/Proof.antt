@@ -6,7 +6,7 @@ use borrow.Author.Needs.{needs}
 use lib.ListN.{getD, take, drop}
 use native.Mathlib.Nat.{add-sub-cancel-left}
 use Rattle.rows.specs.Rows.{existing, partOf, startOf}
-use Rattle.rows.proofs.Laws.{There, there, no-row}
+use Rattle.rows.proofs.RowLaws.{There, there, no-row}
 use Rattle.rows.proofs.row_body.Statement.{statement}
 use Rattle.rows.proofs.row_body.Tie as tie
 

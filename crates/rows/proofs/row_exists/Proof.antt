@@ -5,7 +5,7 @@ use native.Mathlib.Omega.{arith}
 use borrow.Author.Needs.{needs}
 use lib.ListN.{length, getD}
 use lib.Dec.{leb}
-use Rattle.rows.proofs.Laws.{exists-held, exists-lacking}
+use Rattle.rows.proofs.RowLaws.{exists-held, exists-lacking}
 use Rattle.rows.proofs.row_exists.Statement.{statement}
 use Rattle.rows.proofs.row_exists.Tie as tie
 

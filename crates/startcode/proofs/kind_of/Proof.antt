@@ -3,7 +3,7 @@ use native.Mathlib.Omega.{arith}
 use borrow.Author.Tests.{le-leb, lt-leb}
 use lib.Dec.{leb·zero}
 use Rattle.startcode.specs.Kinds.{kindOf}
-use Rattle.startcode.proofs.Laws.{outside}
+use Rattle.startcode.proofs.PrefixLaws.{outside}
 use Rattle.startcode.proofs.kind_of.Statement.{statement}
 use Rattle.startcode.proofs.kind_of.Tie as tie
 

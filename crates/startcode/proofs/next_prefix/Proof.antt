@@ -5,7 +5,7 @@ use native.Mathlib.Omega.{arith}
 use borrow.Author.Needs.{needs}
 use lib.ListN.{length, drop}
 use Rattle.startcode.specs.Prefix.{before, nextPrefix}
-use Rattle.startcode.proofs.Laws.{search-start, search-hit, search-step, search-end}
+use Rattle.startcode.proofs.PrefixLaws.{search-start, search-hit, search-step, search-end}
 use Rattle.startcode.proofs.next_prefix.Statement.{statement}
 use Rattle.startcode.proofs.next_prefix.Tie as tie
 

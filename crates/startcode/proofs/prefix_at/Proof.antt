@@ -6,7 +6,7 @@ use native.Mathlib.Omega.{arith}
 use borrow.Author.Needs.{needs}
 use borrow.Author.Tests.{ne-eqb}
 use lib.ListN.{length, getD, drop, length-drop}
-use Rattle.startcode.proofs.Laws.{begins-at, begins-third, begins-short}
+use Rattle.startcode.proofs.PrefixLaws.{begins-at, begins-third, begins-short}
 use Rattle.startcode.proofs.prefix_at.Statement.{statement}
 use Rattle.startcode.proofs.prefix_at.Tie as tie
 

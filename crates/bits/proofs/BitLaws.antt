@@ -1,0 +1,198 @@
+-- The laws of bits and of the read, for any width.
+use Prim.Native.Nat.{ℕ, zero, suc, _+_, _-_, _*_, _/_, _%_, _^_, _≤_, _<_, min}
+use mathlib.Core.Path.{_≡_, refl, sym, ap, _∙_}
+use mathlib.Core.List.{List, [], _∷_, _++_}
+use native.Mathlib.Omega.{arith}
+use native.Mathlib.Nat.{mod-lt, pow-suc, div-one, div-div-eq-div-mul}
+use borrow.Author.Tests.{le-leb, lt-leb, leb-true, leb-false}
+use lib.Dec.{leb}
+use lib.ListN.{length, getD, take, drop, length-append, length-take, length-drop, drop-of-length-le, List·getD-append}
+use lib.Seq.{drop-drop, getD-take, getD-append-add}
+use Rattle.bits.specs.Lists.{All}
+use Rattle.bits.specs.Bits.{bitsIn, bitsOf, payload, bitAt, readOn, readAt}
+use Rattle.bits.specs.declared.Bit.{Bit}
+use Rattle.bits.specs.declared.Bit.the-variants as bit
+use Rattle.bits.specs.declared.Read.the-variants as read
+use Rattle.bits.proofs.ListLaws.{all-append, all-drop, all-take, at-head}
+use Rattle.bits.proofs.TestLaws.{by-test}
+
+-- ── the bits of numbers and bytes ──
+
+pub length-in : (w n : ℕ) → length (bitsIn w n) ≡ w
+unfolding bitsIn
+length-in zero n = refl
+length-in (suc w) n = ap suc (length-in w n)
+
+pub bit-in : (w n j : ℕ) → j < w → getD (bitsIn w n) j 0 ≡ n / 2 ^ (w - 1 - j) % 2
+unfolding bitsIn
+bit-in zero n j h = absurd (omega arith)
+bit-in (suc w) n zero h = let e : suc w - 1 - zero ≡ w = omega arith in rw e
+bit-in (suc w) n (suc j) h = let e : suc w - 1 - suc j ≡ w - 1 - j = omega arith in rw e (bit-in w n j (omega arith))
+
+pub length-bits : (s : List ℕ) → length (bitsOf s) ≡ length s * 8
+unfolding bitsOf
+length-bits [] = refl
+length-bits (b ∷ s) = let h = length-bits s in let k = length-in 8 b in rw length-append (omega arith)
+
+bit-of-list : (s : List ℕ) (q r : ℕ) → r < 8 → q < length s → getD (bitsOf s) (q * 8 + r) 0 ≡ getD s q 0 / 2 ^ (7 - r) % 2
+unfolding bitsOf
+bit-of-list [] q r h k = absurd (omega arith)
+bit-of-list (b ∷ s) zero r h k =
+    let e : zero * 8 + r ≡ r = omega arith in
+    rw e (List·getD-append (bitsIn 8 b) (bitsOf s) 0 r (let l = length-in 8 b in omega arith) ∙ bit-in 8 b r h)
+bit-of-list (b ∷ s) (suc q) r h k =
+    let e : suc q * 8 + r ≡ length (bitsIn 8 b) + (q * 8 + r) = let l = length-in 8 b in omega arith in
+    rw e (getD-append-add (bitsIn 8 b) (bitsOf s) (q * 8 + r) 0 ∙ bit-of-list s q r h (omega arith))
+
+-- the bit at place k is in byte k / 8
+pub bit-of : (s : List ℕ) (k : ℕ) → k < length s * 8 → getD (bitsOf s) k 0 ≡ getD s (k / 8) 0 / 2 ^ (7 - k % 8) % 2
+bit-of s k h =
+    let e : k ≡ k / 8 * 8 + k % 8 = omega arith in
+    ap (λ (n : ℕ). getD (bitsOf s) n 0) e ∙ bit-of-list s (k / 8) (k % 8) (omega arith) (omega arith)
+
+abbrev pub Binary : ℕ → Type 0
+Binary b = b < 2
+
+pub all-in : (w n : ℕ) → All Binary (bitsIn w n)
+unfolding bitsIn
+all-in zero n = tt
+all-in (suc w) n = (mod-lt (n / 2 ^ w) {m = 2} (omega arith), all-in w n)
+
+pub all-bits : (s : List ℕ) → All Binary (bitsOf s)
+unfolding bitsOf
+all-bits [] = tt
+all-bits (b ∷ s) = all-append Binary (bitsIn 8 b) (bitsOf s) (all-in 8 b) (all-bits s)
+
+-- ── a payload's bits ──
+
+pub all-payload : (s : List ℕ) (count : ℕ) → All Binary (payload s count)
+all-payload s count = all-take Binary count (bitsOf s) (all-bits s)
+
+pub length-payload : (s : List ℕ) (count : ℕ) → length (payload s count) ≡ min count (length s * 8)
+length-payload s count = length-take count (bitsOf s) ∙ ap (min count) (length-bits s)
+
+pub payload-end : (s : List ℕ) (count place : ℕ) → min count (length s * 8) ≤ place → drop place (payload s count) ≡ []
+payload-end s count place h = let l = length-payload s count in drop-of-length-le (payload s count) {i = place} (omega arith)
+
+pub payload-bit : (s : List ℕ) (count place : ℕ) → place < count → place / 8 < length s →
+    drop place (payload s count) ≡ (getD s (place / 8) 0 / 2 ^ (7 - place % 8) % 2) ∷ drop (place + 1) (payload s count)
+payload-bit s count place h k =
+    let l = length-payload s count in
+    let b = getD-take count (bitsOf s) place 0 h ∙ bit-of s place (omega arith) in
+    rw (at-head (payload s count) place 0 (omega arith), b)
+
+-- ── one bit ──
+
+-- the bit at a place heads what is left there
+heads : List ℕ → Bit
+heads [] = bit.Missing
+heads (b ∷ t) = bit.Is b
+
+bit-heads : (l : List ℕ) (place : ℕ) → bitAt l place ≡ heads (drop place l)
+unfolding bitAt heads
+bit-heads [] zero = refl
+bit-heads [] (suc place) = refl
+bit-heads (b ∷ l) zero = refl
+bit-heads (b ∷ l) (suc place) = bit-heads l place
+
+pub bit-here : (l : List ℕ) (place b : ℕ) (t : List ℕ) → drop place l ≡ b ∷ t → bit.Is b ≡ bitAt l place
+unfolding heads
+bit-here l place b t e = sym (bit-heads l place ∙ ap heads e)
+
+pub bit-none : (l : List ℕ) (place : ℕ) → drop place l ≡ [] → bit.Missing ≡ bitAt l place
+unfolding heads
+bit-none l place e = sym (bit-heads l place ∙ ap heads e)
+
+-- the other way: what a bit that was read, or was missing, says of what is left
+head-is : (l : List ℕ) (place b : ℕ) (m : List ℕ) → drop place l ≡ m → heads m ≡ bit.Is b → drop place l ≡ b ∷ drop (place + 1) l
+unfolding heads
+head-is l place b [] e r = let z : _≡_ {A = ℕ} 0 1 = cc in absurd (omega arith)
+head-is l place b (x ∷ t) e r =
+    let y : x ≡ b = cc in
+    let d : drop (place + 1) l ≡ t = sym (drop-drop 1 place l) ∙ ap (drop 1) e in
+    e ∙ rw (y, d)
+
+pub bit-read : (l : List ℕ) (place b : ℕ) → bitAt l place ≡ bit.Is b → drop place l ≡ b ∷ drop (place + 1) l
+bit-read l place b r = head-is l place b (drop place l) refl (sym (bit-heads l place) ∙ r)
+
+head-none : (m : List ℕ) → heads m ≡ bit.Missing → m ≡ []
+unfolding heads
+head-none [] r = refl
+head-none (x ∷ t) r = let z : _≡_ {A = ℕ} 0 1 = cc in absurd (omega arith)
+
+pub bit-missing : (l : List ℕ) (place : ℕ) → bitAt l place ≡ bit.Missing → drop place l ≡ []
+bit-missing l place r = head-none (drop place l) (sym (bit-heads l place) ∙ r)
+
+pub bit-small : (l : List ℕ) (place b : ℕ) (t : List ℕ) → All Binary l → drop place l ≡ b ∷ t → b < 2
+bit-small l place b t h e = let k : All Binary (b ∷ t) = rw e at (all-drop Binary place l h) in k .0
+
+pub bit-inside : (l : List ℕ) (place b : ℕ) (t : List ℕ) → drop place l ≡ b ∷ t → place < length l
+bit-inside l place b t e = let d = sym (length-drop place l) ∙ ap length e in omega arith
+
+-- ── any width ──
+
+pub read-fits : (l : List ℕ) (place width : ℕ) → width ≤ 32 → readAt l place width ≡ readOn 0 width (drop place l)
+unfolding readAt
+read-fits l place width h = simp (le-leb width 32 h)
+
+pub read-wide : (l : List ℕ) (place width : ℕ) → 32 < width → readAt l place width ≡ read.TooWide
+unfolding readAt
+read-wide l place width h = simp (lt-leb width 32 h)
+
+pub read-step : (value width k b at : ℕ) (l : List ℕ) → k < width → drop at l ≡ b ∷ drop (at + 1) l →
+    readOn value (width - k) (drop at l) ≡ readOn (value * 2 + b) (width - (k + 1)) (drop (at + 1) l)
+unfolding readOn
+read-step value width k b at l h e = let w : width - k ≡ suc (width - (k + 1)) = omega arith in rw (w, e)
+
+pub read-end : (value width k at : ℕ) (l : List ℕ) → k < width → drop at l ≡ [] → readOn value (width - k) (drop at l) ≡ read.Missing
+unfolding readOn
+read-end value width k at l h e = let w : width - k ≡ suc (width - (k + 1)) = omega arith in rw (w, e)
+
+-- a read that is not refused for its width has a width of at most 32
+pub not-wide : (l : List ℕ) (place width : ℕ) → (readAt l place width ≡ read.TooWide → ⊥) → width ≤ 32
+not-wide l place width h = by-test (leb width 32) (leb-true width 32) (λ f. absurd (h (read-wide l place width (leb-false width 32 f))))
+
+-- and the other way: it is refused for its width alone
+on-narrow : (acc width : ℕ) (l : List ℕ) → readOn acc width l ≡ read.TooWide → ⊥
+unfolding readOn
+on-narrow acc zero l e = let z : _≡_ {A = ℕ} 0 1 = cc in omega arith
+on-narrow acc (suc width) [] e = let z : _≡_ {A = ℕ} 0 1 = cc in omega arith
+on-narrow acc (suc width) (b ∷ l) e = on-narrow (acc * 2 + b) width l e
+
+pub never-wide : (l : List ℕ) (place width : ℕ) → width ≤ 32 → readAt l place width ≡ read.TooWide → ⊥
+never-wide l place width h e = on-narrow 0 width (drop place l) (sym (read-fits l place width h) ∙ e)
+
+-- what was read writes the bits that it was read from, after those of `acc`
+pub read-writes : (acc w n : ℕ) (l : List ℕ) → All Binary l → readOn acc w l ≡ read.Value n → (take w l ≡ bitsIn w n) × (n / 2 ^ w ≡ acc)
+unfolding readOn bitsIn
+read-writes acc zero n l h e = let v : acc ≡ n = cc in (refl, simp div-one (sym v))
+read-writes acc (suc w) n [] h e = let z : _≡_ {A = ℕ} 0 1 = cc in absurd (omega arith)
+read-writes acc (suc w) n (b ∷ l) h e =
+    let (bits, high) = read-writes (acc * 2 + b) w n l (h .1) e in
+    let small = h .0 in
+    let m : n / 2 ^ w % 2 ≡ b = omega arith in
+    (rw (m, bits), rw (pow-suc 2 w, ← div-div-eq-div-mul n (2 ^ w) 2) (omega arith))
+
+-- and bits that write n are read as n
+pub reads-written : (acc w n : ℕ) (l : List ℕ) → take w l ≡ bitsIn w n → n / 2 ^ w ≡ acc → readOn acc w l ≡ read.Value n
+unfolding readOn bitsIn
+reads-written acc zero n l e h = ap read.Value (sym h ∙ div-one n)
+reads-written acc (suc w) n [] e h = let z : _≡_ {A = ℕ} 0 1 = cc (ap length e) in absurd (omega arith)
+reads-written acc (suc w) n (b ∷ l) e h =
+    let x : b ≡ n / 2 ^ w % 2 = cc in
+    let t : take w l ≡ bitsIn w n = cc in
+    let d : n / 2 ^ w / 2 ≡ acc = div-div-eq-div-mul n (2 ^ w) 2 ∙ (rw (pow-suc 2 w) at h) in
+    reads-written (acc * 2 + b) w n l t (omega arith)
+
+-- a read fails exactly where the bits are fewer than it wants
+pub read-lacks : (acc w : ℕ) (l : List ℕ) → readOn acc w l ≡ read.Missing → length l < w
+unfolding readOn
+read-lacks acc zero l e = let z : _≡_ {A = ℕ} 0 1 = cc in absurd (omega arith)
+read-lacks acc (suc w) [] e = omega arith
+read-lacks acc (suc w) (b ∷ l) e = let r = read-lacks (acc * 2 + b) w l e in omega arith
+
+pub lacks-read : (acc w : ℕ) (l : List ℕ) → length l < w → readOn acc w l ≡ read.Missing
+unfolding readOn
+lacks-read acc zero l h = absurd (omega arith)
+lacks-read acc (suc w) [] h = refl
+lacks-read acc (suc w) (b ∷ l) h = lacks-read (acc * 2 + b) w l (omega arith)

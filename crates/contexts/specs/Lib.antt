@@ -1,0 +1,2 @@
+-- Document 01, "Bins": contexts.
+pub mod Contexts

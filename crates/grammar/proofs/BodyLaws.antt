@@ -1,0 +1,147 @@
+-- Reading a body succeeds exactly where the grammar's rule for it holds.
+use Prim.Native.Nat.{ℕ}
+use mathlib.Core.Path.{_≡_, refl, sym, _∙_, ap, subst}
+use mathlib.Core.Logic.{_⊎_, inl, inr, _↔_}
+use mathlib.Core.List.{List, _∷_, _++_}
+use mathlib.Core.Bool.{false}
+use mathlib.Core.Option.{Option, some}
+use native.Mathlib.Omega.{arith}
+use borrow.Author.Tests.{eqb-true, eq-eqb, le-ltb}
+use lib.Dec.{eqb}
+use lib.ListN.{length, getD, replicate}
+use Rattle.answers.proofs.ResultLaws.{not-good, bind-good}
+use Rattle.bits.specs.Bits.{bitsIn, bitsOf, bitAt}
+use Rattle.bits.specs.declared.Bit.the-variants as bit
+use Rattle.bits.specs.declared.Read.the-variants.{Value}
+use Rattle.bits.proofs.TestLaws.{by-test}
+use Rattle.layout.specs.Reader.{recordOf, numberOf, headerResult, byNumber, notCopyright, extensionResult, readBit, displayShort, displayOf, plainOf, colouredOf, copyrightOf, refuseIf, readValue}
+use Rattle.layout.specs.Extensions.{numbered}
+use Rattle.layout.proofs.NumberLaws.{number-iff, number-one, number-byte, numbered-by}
+use Rattle.layout.specs.Answers as answers
+use Rattle.layout.specs.Layouts.{fields, leastBytes}
+use Rattle.layout.specs.Obeys.{Fits, AllAllowed, written, Obeys}
+use Rattle.answers.specs.Results.{good, _>>=_}
+use Rattle.layout.specs.Records.{headerRecord, plainRecord, colouredRecord, copyrightRecord}
+use Rattle.layout.specs.declared.Layout.{Layout}
+use Rattle.layout.specs.declared.Fault.the-variants as fault
+use Rattle.layout.specs.declared.Layout.the-variants.{Header, Display, Coloured, Copyright}
+use Rattle.layout.specs.declared.Place.{Place}
+use Rattle.layout.specs.declared.Place.the-variants as place
+use Rattle.layout.specs.declared.SequenceHeader.{SequenceHeader}
+use Rattle.layout.proofs.AnswerLaws.{short-by}
+use Rattle.layout.proofs.AnswerLaws as laws
+use Rattle.layout.proofs.LayoutLaws.{fits-length, spell, spelled}
+use Rattle.layout.proofs.BreakAnswers.{copyright-made, number-there}
+use Rattle.layout.proofs.ExtensionLaws.{plain-made, coloured-made, display-bit, coloured-bit, record-if, if-record}
+use Rattle.layout.proofs.ObeyLaws.{then-good, value-good}
+use Rattle.grammar.specs.Grammar.{Extension, IsHeader, IsCopyright, IsDisplay}
+
+-- ── sequence header ──
+
+-- a record is read exactly where the body obeys with values that make it
+module _ {A : Type 0} (layout : Layout) (make : List ℕ → Option A) (body : List ℕ) where
+  pub record-good : (a : A) → (recordOf layout make body ≡ good a) ↔ ((vs : List ℕ) × Obeys layout body vs × (make vs ≡ some a))
+  record-good a = (record-if layout make body a, λ h. if-record layout make body a (h .0) (h .1) (h .2))
+
+pub header-good : (body : List ℕ) (header : SequenceHeader) → (headerResult body ≡ good header) ↔ IsHeader body header
+header-good body header = record-good Header headerRecord body header
+
+-- ── numbers ──
+
+two-is : (body : List ℕ) (n : ℕ) → numberOf body ≡ Value n → numbered 2 body ≡ false → eqb n 2 ≡ false
+two-is body n e f = sym (numbered-by body n 2 (omega arith) (number-iff body n .0 e)) ∙ f
+
+-- ── copyright and opaque extensions ──
+
+-- an extension of one layout is read exactly where the body obeys, if values that fit make a record
+module _ {A : Type 0} (layout : Layout) (make : List ℕ → Option A) (wrap : A → answers.Extension) (body : List ℕ)
+    (made : (vs : List ℕ) → Fits (fields layout) vs → (a : A) × (make vs ≡ some a)) where
+  layout-good : ((x : answers.Extension) × ((recordOf layout make body >>= (λ a. good (wrap a))) ≡ good x)) ↔ ((vs : List ℕ) × Obeys layout body vs)
+  layout-good = (
+    (λ h. let r = bind-good (recordOf layout make body) _ (h .0) (h .1) in let o = record-good layout make body (r .0) .0 (r .1) in (o .0, o .1)),
+    λ h.
+        let m = made (h .0) (h .1 .fits) in
+        (wrap (m .0), ap (λ r. r >>= (λ a. good (wrap a))) (record-good layout make body (m .0) .1 (h .0, h .1, m .1))),
+  )
+
+copyright-good : (body : List ℕ) → ((x : answers.Extension) × (copyrightOf body ≡ good x)) ↔ IsCopyright body
+unfolding copyrightOf
+copyright-good body = layout-good Copyright copyrightRecord answers.copyright body copyright-made
+
+-- an extension that is no display extension where it stands
+module _ (body : List ℕ) (p : Place) (plain : (n : ℕ) → numberOf body ≡ Value n → notCopyright p body n ≡ good (answers.opaque n)) where
+  extension-good : ((x : answers.Extension) × (extensionResult p body ≡ good x)) ↔ Extension body
+  unfolding extensionResult byNumber
+  extension-good = (
+    (λ h.
+        let r = bind-good (readValue (numberOf body)) _ (h .0) (h .1) in
+        let n = value-good (numberOf body) (r .0) (r .1) in
+        record {
+          some-byte = number-byte body (r .0) (number-iff body (r .0) .0 n);
+          copyright = λ four.
+              let f : r .0 ≡ 4 = number-one body (r .0) 4 (number-iff body (r .0) .0 n) four in
+              let c : copyrightOf body ≡ good (h .0) = rw (eq-eqb (r .0) 4 f) at (r .2) in
+              copyright-good body .0 (h .0, c);
+        }),
+    λ h.
+        let n = number-there body (h .some-byte) in
+        let start : extensionResult p body ≡ byNumber p body (n .0) = rw (n .1) in
+        by-test (eqb (n .0) 4)
+        (λ t.
+        let four : numberOf body ≡ Value 4 = n .1 ∙ ap Value (eqb-true (n .0) 4 t) in
+        let c = copyright-good body .1 (h .copyright (number-iff body 4 .0 four)) in
+        (c .0, start ∙ rw t (c .1)))
+        (λ f. (answers.opaque (n .0), start ∙ rw f (plain (n .0) (n .1)))),
+  )
+
+-- after a picture header
+pub picture-good : (body : List ℕ) → ((x : answers.Extension) × (extensionResult place.Picture body ≡ good x)) ↔ Extension body
+picture-good body = extension-good body place.Picture (λ n e. refl)
+
+-- in a group's head, where the number is not 2
+pub head-good : (body : List ℕ) → numbered 2 body ≡ false → ((x : answers.Extension) × (extensionResult place.Head body ≡ good x)) ↔ Extension body
+head-good body f = extension-good body place.Head (λ n e. let two = two-is body n e f in rw two)
+
+-- ── display extensions ──
+
+-- a display extension is not short
+pub display-long : (body : List ℕ) (x : answers.Extension) → displayOf body ≡ good x → displayShort body ≡ false
+unfolding displayOf
+display-long body x e = by-test (displayShort body) (λ t. not-good (rw t at e)) (λ f. f)
+
+plain-good : (body : List ℕ) → ((x : answers.Extension) × (plainOf body ≡ good x)) ↔ ((vs : List ℕ) × Obeys Display body vs)
+unfolding plainOf
+plain-good body = layout-good Display plainRecord answers.display body plain-made
+
+coloured-good : (body : List ℕ) → ((x : answers.Extension) × (colouredOf body ≡ good x)) ↔ ((vs : List ℕ) × Obeys Coloured body vs)
+unfolding colouredOf
+coloured-good body = layout-good Coloured colouredRecord answers.display body coloured-made
+
+-- by the colour bit, the one layout or the other
+plain-display : (body vs : List ℕ) → Obeys Display body vs → displayOf body ≡ plainOf body
+unfolding leastBytes
+plain-display body vs h =
+    let b = display-bit body vs h in
+    laws.display-long body (bit.Is 0) (short-by body (bit.Is 0) (h .long) b) b
+
+coloured-display : (body vs : List ℕ) → Obeys Coloured body vs → displayOf body ≡ colouredOf body
+unfolding leastBytes
+coloured-display body vs h =
+    let b = coloured-bit body vs h in
+    let l = h .long in
+    laws.display-long body (bit.Is 1) (short-by body (bit.Is 1) (omega arith) b ∙ le-ltb (length body) 9 l) b
+
+pub display-good : (body : List ℕ) → ((x : answers.Extension) × (displayOf body ≡ good x)) ↔ IsDisplay body
+display-good body = (from-result, λ h. from-layout (h .0) (h .1))
+  where
+    from-result : ((x : answers.Extension) × (displayOf body ≡ good x)) → IsDisplay body
+    from-result h = unfold displayOf in
+        let s = then-good (refuseIf (displayShort body) fault.Short) _ (h .0) (h .1) in
+        let r = bind-good (readBit (bitAt (bitsOf body) 8)) _ (h .0) (s .1) in
+        by-test (eqb (r .0) 1)
+        (λ t. let o = coloured-good body .0 (h .0, rw t at (r .2)) in (o .0, inr (o .1)))
+        (λ f. let o = plain-good body .0 (h .0, rw f at (r .2)) in (o .0, inl (o .1)))
+
+    from-layout : (vs : List ℕ) → Obeys Display body vs ⊎ Obeys Coloured body vs → (x : answers.Extension) × (displayOf body ≡ good x)
+    from-layout vs (inl h) = let x = plain-good body .1 (vs, h) in (x .0, plain-display body vs h ∙ x .1)
+    from-layout vs (inr h) = let x = coloured-good body .1 (vs, h) in (x .0, coloured-display body vs h ∙ x .1)
