@@ -8,13 +8,13 @@ use native.Mathlib.Omega.{arith}
 use lib.Dec.{eqb, leb→le}
 use lib.IntN.{ℤ, pos, negsuc, negℤ}
 use Rattle.answers.specs.Answers.{Outcome, done, refused, mapDone}
-use Rattle.answers.proofs.Outcomes.{mapped}
+use Rattle.answers.proofs.OutcomeLaws.{map-done}
 use Rattle.payload.specs.Golomb.{Numbered, standsFor, withSign}
 use Rattle.payload.specs.Reader.{golomb, signedGolomb}
 use Rattle.payload.proofs.GolombLaws.{golomb-bound}
 use Rattle.aec.specs.Bins.{bypassOf, stuffingOf, decodeOf, decodePairOf}
 use Rattle.aec.specs.declared.State.{State}
-use Rattle.aec.specs.declared.Context.{Context}
+use Rattle.contexts.specs.declared.Context.{Context}
 use Rattle.aec.proofs.Main as aec
 use Rattle.avsplus.specs.Payloads.{noNumber, noSignedNumber, noBin}
 
@@ -48,7 +48,7 @@ mark-far = leb→le 2147483648 (below noSignedNumber) tt
 pub signed-marked : (bytes : List ℕ) (bits place : ℕ) (m : Numbered ℤ) → signedGolomb bytes bits place ≡ done m → m .number ≢ noSignedNumber
 unfolding signedGolomb
 signed-marked bytes bits place m e z =
-    let u = mapped withSign (golomb bytes bits place) m e in
+    let u = map-done withSign (golomb bytes bits place) m e in
     let h = signed-small (u .0 .number) (golomb-bound bytes bits place (u .0) (u .1)) in
     let k = ap below (ap (λ (n : Numbered ℤ). n .number) (u .2) ∙ z) in
     let far = mark-far in

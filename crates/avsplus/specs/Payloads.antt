@@ -5,7 +5,7 @@ use lib.IntN.{ℤ, pos, negℤ}
 use Rattle.answers.specs.Answers.{Outcome, done, refused}
 use Rattle.payload.specs.Golomb.{Numbered}
 use Rattle.aec.specs.declared.State.{State}
-use Rattle.aec.specs.declared.Context.{Context}
+use Rattle.contexts.specs.declared.Context.{Context}
 use Rattle.avsplus.specs.declared.Number.{Number}
 use Rattle.avsplus.specs.declared.SignedNumber.{SignedNumber}
 use Rattle.avsplus.specs.declared.Begun.{Begun}

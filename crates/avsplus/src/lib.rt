@@ -1,11 +1,11 @@
 // What C and Rust call. Each function asks the library and hands its answer over: a status, which is document 01's number, with
 // numbers that are always there by value, and numbers that may not be there in lent memory.
-use aec::Context;
 use aec::Decoded;
 use aec::DecodedPair;
 use aec::Started;
 use aec::State;
 use aec::Stepped;
+use contexts::Context;
 use filing::FilingAnswer;
 use groups::Display;
 use groups::GroupAnswer;
@@ -40,7 +40,8 @@ ghost use Rattle.rows.specs.Rows.{rowExists, existing};
 ghost use Rattle.groups.specs.Reader.{groupAt};
 ghost use Rattle.payload.specs.Escape.{removal, outputAfter};
 ghost use Rattle.payload.specs.Reader.{golomb, signedGolomb};
-ghost use Rattle.aec.specs.Bins.{freshContext, startOf, bypassOf, stuffingOf, decodeOf, decodePairOf};
+ghost use Rattle.contexts.specs.Contexts.{freshContext};
+ghost use Rattle.aec.specs.Bins.{startOf, bypassOf, stuffingOf, decodeOf, decodePairOf};
 ghost use Rattle.aec.specs.Says.{refusalNumber, steppedSays};
 ghost use Rattle.avsplus.specs.Answers.{counted, answered, after, filedAnswer, partAt, kindNumber, kindAnswer};
 ghost use Rattle.avsplus.specs.Numbers.{headerNumbers, displayNumbers, colourNumbers, copyrightNumbers, ratioNumbers, placeFor, numberOf, displayOf, colourOf, copyrightOf, shownNumbers, shownColour, groupHeader, groupDisplay, groupColour};
@@ -611,7 +612,7 @@ pub extern "C" fn avsplus_signed_golomb(bytes: &[u8], bits: usize, place: usize)
 pub extern "C" fn avsplus_fresh_context() -> Context
     ensures { λ r. ⌜ r ≡ freshContext ⌝ }
 {
-    aec::fresh()
+    contexts::fresh()
 }
 
 // The state after a start on a payload.

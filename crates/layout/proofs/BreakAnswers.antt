@@ -10,14 +10,14 @@ use borrow.Author.Tests.{eqb-true, eqb-false, ltb-true, ltb-false, lt-ltb}
 use lib.Dec.{eqb, ltb}
 use lib.ListN.{length, getD}
 use lib.Seq.{drop-cons}
-use Rattle.answers.proofs.Results.{not-bad}
+use Rattle.answers.proofs.ResultLaws.{not-bad}
 use Rattle.answers.specs.Answers.{refused, SHORT}
 use Rattle.bits.specs.Bits.{bitsOf, bitAt, readOn, readAt}
 use Rattle.bits.specs.declared.Bit.{Bit}
 use Rattle.bits.specs.declared.Bit.the-variants as bit
 use Rattle.bits.specs.declared.Read.the-variants.{Value}
-use Rattle.bits.proofs.Lists.{by-test, and-true}
-use Rattle.bits.proofs.Laws.{length-bits, all-bits, bit-here, bit-small}
+use Rattle.bits.proofs.TestLaws.{by-test, and-true}
+use Rattle.bits.proofs.BitLaws.{length-bits, all-bits, bit-here, bit-small}
 use Rattle.layout.specs.Layouts.{fields, leastBytes}
 use Rattle.layout.specs.Records.{headerRecord, plainRecord, colouredRecord, copyrightRecord}
 use Rattle.layout.specs.Obeys.{Fits}

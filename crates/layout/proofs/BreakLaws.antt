@@ -9,13 +9,13 @@ use borrow.Author.Tests.{eqb-true, eqb-false, eq-eqb, ne-eqb, ltb-true, ltb-fals
 use lib.Dec.{eqb, ltb}
 use lib.ListN.{length, take, drop, take-append-drop}
 use lib.Seq.{take-at, drop-at}
-use Rattle.answers.proofs.Results.{not-bad, bad-same}
+use Rattle.answers.proofs.ResultLaws.{not-bad, bad-same}
 use Rattle.bits.specs.Lists.{All}
 use Rattle.bits.specs.Bits.{bitsOf, readAt}
 use Rattle.bits.specs.declared.Read.{Read}
 use Rattle.bits.specs.declared.Read.the-variants as read
-use Rattle.bits.proofs.Lists.{by-test, contrary}
-use Rattle.bits.proofs.Laws.{length-bits, never-wide}
+use Rattle.bits.proofs.TestLaws.{by-test, contrary}
+use Rattle.bits.proofs.BitLaws.{length-bits, never-wide}
 use Rattle.bits.proofs.Main.{missing-exactly}
 use Rattle.layout.specs.Layouts.{nameOf, widthOf, ruleOf, Allowed, byRule, faultAt, fields, bitCount, leastBytes}
 use Rattle.layout.specs.Records.{copyrightRecord}

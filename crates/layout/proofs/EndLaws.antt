@@ -13,8 +13,9 @@ use lib.Seq.{take-all, drop-nil, drop-cons, drop-length, drop-append-add}
 use Rattle.bits.specs.Lists.{All}
 use Rattle.bits.specs.Bits.{bitsIn, bitsOf, readOn}
 use Rattle.bits.specs.declared.Read.the-variants.{Value}
-use Rattle.bits.proofs.Lists.{all-drop, and-true}
-use Rattle.bits.proofs.Laws.{length-in, reads-written}
+use Rattle.bits.proofs.ListLaws.{all-drop}
+use Rattle.bits.proofs.TestLaws.{and-true}
+use Rattle.bits.proofs.BitLaws.{length-in, reads-written}
 use Rattle.layout.specs.Reader.{allZero, stuffing}
 
 abbrev pub Byte : ℕ → Type 0

@@ -15,8 +15,8 @@ use Rattle.bits.specs.declared.Bit.{Bit}
 use Rattle.bits.specs.declared.Bit.the-variants as bit
 use Rattle.bits.specs.declared.Read.{Read}
 use Rattle.bits.specs.declared.Read.the-variants as read
-use Rattle.bits.proofs.Lists.{by-test}
-use Rattle.bits.proofs.Laws.{read-fits, bit-here}
+use Rattle.bits.proofs.TestLaws.{by-test}
+use Rattle.bits.proofs.BitLaws.{read-fits, bit-here}
 use Rattle.layout.specs.Layouts.{widthOf, ruleOf, Allowed, marker, fields, bitCount, leastBytes}
 use Rattle.layout.specs.Records.{headerRecord, plainRecord, colouredRecord, copyrightRecord}
 use Rattle.layout.specs.Obeys.{AllAllowed, Fits, Obeys, HeaderBody, DisplayBody, plain, coloured, CopyrightBody}
@@ -38,8 +38,8 @@ use Rattle.layout.specs.declared.CopyrightExtension.{CopyrightExtension}
 use Rattle.layout.proofs.LayoutLaws.{each-at, fits-length, spelled}
 use Rattle.layout.proofs.NumberLaws.{number-iff, number-one}
 use Rattle.layout.proofs.ObeyLaws.{then-good, value-good, obeys-if, if-obeys}
-use Rattle.answers.proofs.Outcomes.{not-done, not-refused, done-one}
-use Rattle.answers.proofs.Results.{not-good, not-bad, good-same, bad-same, bind-good}
+use Rattle.answers.proofs.OutcomeLaws.{not-done, not-refused, done-one}
+use Rattle.answers.proofs.ResultLaws.{not-good, not-bad, good-same, bad-same, bind-good}
 use Rattle.layout.proofs.BreakLaws.{held-read}
 use Rattle.layout.proofs.AnswerLaws.{short-by, display-long}
 

@@ -5,7 +5,7 @@ use mathlib.Core.Logic.{_↔_, _≢_}
 use mathlib.Core.List.{List, []}
 use mathlib.Core.Bool.{true}
 use lib.ListN.{length, getD}
-use Rattle.answers.proofs.Results.{good-same}
+use Rattle.answers.proofs.ResultLaws.{good-same}
 use Rattle.answers.specs.Answers.{done, refused, OneToOne, SHORT}
 use Rattle.bits.specs.Bits.{bitsOf, bitAt}
 use Rattle.bits.specs.declared.Bit.the-variants.{Is}

@@ -12,8 +12,8 @@ use lib.Seq.{take-length}
 use Rattle.bits.specs.Bits.{bitsIn, bitsOf, payload, readOn, readAt}
 use Rattle.bits.specs.declared.Read.{Read}
 use Rattle.bits.specs.declared.Read.the-variants.{Value, Missing, TooWide}
-use Rattle.bits.proofs.Lists.{by-test, contrary, and-true}
-use Rattle.bits.proofs.Laws.{length-in}
+use Rattle.bits.proofs.TestLaws.{by-test, contrary, and-true}
+use Rattle.bits.proofs.BitLaws.{length-in}
 use Rattle.bits.proofs.Main.{read-exactly}
 use Rattle.layout.specs.Extensions.{startsWith, numbered, HasNumber, isOpaque}
 use Rattle.layout.specs.Reader.{numberOf}

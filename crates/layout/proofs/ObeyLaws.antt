@@ -10,13 +10,13 @@ use borrow.Author.Tests.{eqb-true, eqb-false, eq-eqb, ne-eqb, leb-true, le-leb, 
 use lib.Dec.{eqb, leb}
 use lib.ListN.{length, take, drop, replicate, length-append, take-append-drop}
 use lib.Seq.{take-all, take-at, drop-at, take-add, take-take, drop-drop}
-use Rattle.answers.proofs.Results.{not-good, good-same, bind-good}
+use Rattle.answers.proofs.ResultLaws.{not-good, good-same, bind-good}
 use Rattle.bits.specs.Lists.{All}
 use Rattle.bits.specs.Bits.{bitsIn, bitsOf, payload, readAt}
 use Rattle.bits.specs.declared.Read.{Read}
 use Rattle.bits.specs.declared.Read.the-variants as read
-use Rattle.bits.proofs.Lists.{by-test, and-true}
-use Rattle.bits.proofs.Laws.{length-in, length-bits}
+use Rattle.bits.proofs.TestLaws.{by-test, and-true}
+use Rattle.bits.proofs.BitLaws.{length-in, length-bits}
 use Rattle.bits.proofs.Main.{read-exactly}
 use Rattle.layout.specs.Layouts.{widthOf, ruleOf, Allowed, faultAt, fields, bitCount}
 use Rattle.layout.specs.Records.{copyrightRecord}

@@ -5,7 +5,7 @@ use mathlib.Core.Bool.{cond}
 use lib.Dec.{eqb}
 use Rattle.answers.specs.Answers.{Outcome, done, refused, OneToOne, SHORT, MARKER, VALUE}
 use Rattle.answers.specs.Results.{Result, good, bad}
-use Rattle.answers.proofs.Outcomes.{undone}
+use Rattle.answers.proofs.OutcomeLaws.{undone}
 use Rattle.layout.specs.Answers.{reasonNumber, headerGives, headerSays, Extension, display, copyright, opaque, extensionGives, extensionSays}
 use Rattle.layout.specs.declared.Fault.{Fault}
 use Rattle.layout.specs.declared.Reason.{Reason}

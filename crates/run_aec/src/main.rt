@@ -1,12 +1,12 @@
 // The bin decoder on document 01's examples and on edge cases: a case a line, the call and its answer.
 // tests/aec_oracle.py reads the cases from this file and works the answers out from document 01 by itself.
-use aec::Context;
 use aec::Decoded;
 use aec::DecodedPair;
 use aec::Refusal;
 use aec::Started;
 use aec::State;
 use aec::Stepped;
+use contexts::Context;
 
 // ── what is printed ──
 
@@ -289,9 +289,9 @@ fn row(bytes: &[u8], count: usize, s: Run) -> Run {
 fn rows(bytes: &[u8], count: usize, x: State, n: u32) {
     let mut s = Run {
         state: x,
-        a: aec::fresh(),
-        b: aec::fresh(),
-        c: aec::fresh(),
+        a: contexts::fresh(),
+        b: contexts::fresh(),
+        c: contexts::fresh(),
         on: true,
     };
     let mut k: u32 = 0;
@@ -340,7 +340,7 @@ fn alone(bytes: &[u8], count: usize, n: u32) {
 
 fn bins(bytes: &[u8], count: usize, x: State, n: u32) {
     let mut y = x;
-    let mut d = aec::fresh();
+    let mut d = contexts::fresh();
     let mut k: u32 = 0;
     while k < n {
         let r = aec::decode(bytes, count, y, d);

@@ -3,7 +3,7 @@ use Prim.Native.Nat.{ℕ, _+_}
 use mathlib.Core.Path.{sym, ap, _∙_}
 use native.Mathlib.Omega.{arith}
 use borrow.Author.Needs.{needs}
-use Rattle.rows.proofs.Laws.{There, there, no-row}
+use Rattle.rows.proofs.RowLaws.{There, there, no-row}
 use Rattle.avsplus.specs.declared.Part.{Part}
 use Rattle.avsplus.specs.Answers.{partAt}
 use Rattle.avsplus.proofs.avsplus_row_body.Statement.{statement}

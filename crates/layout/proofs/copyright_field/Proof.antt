@@ -1,6 +1,6 @@
 -- The table is the layout's list of fields.
 use Rattle.layout.specs.Layouts.{copyrightFields}
-use Rattle.bits.proofs.Lists.{at-head}
+use Rattle.bits.proofs.ListLaws.{at-head}
 use borrow.Author.Needs.{needs}
 use Rattle.layout.proofs.copyright_field.Statement.{statement}
 use Rattle.layout.proofs.copyright_field.Tie as tie

@@ -9,7 +9,7 @@ use Rattle.layout.specs.Layouts.{fields, bitCount}
 use Rattle.layout.specs.Reader.{judge}
 use Rattle.layout.specs.declared.Field.{Field}
 use Rattle.layout.specs.declared.Verdict.the-variants.{Faulty}
-use Rattle.bits.proofs.Lists.{at-head}
+use Rattle.bits.proofs.ListLaws.{at-head}
 use Rattle.layout.proofs.LayoutLaws.{table, rest-count, fits-length}
 use Rattle.layout.proofs.ReadingLaws.{judge-pass, judge-fail, judge-end}
 use borrow.Author.Needs.{needs}
