@@ -1,5 +1,6 @@
 // Reading bits of bytes, most significant first.
 ghost use mathlib.Core.Path.{_≡_};
+ghost use Prim.Native.Nat.{_<_};
 ghost use Rattle.bits.specs.Bits.{payload, bitAt, readAt};
 
 // The bit at a place, or none.
@@ -16,8 +17,9 @@ pub enum Read {
     TooWide,
 }
 
-fn wide(x: u8) -> u32
-    ensures { λ r. ⌜ r ≡ x ⌝ }
+// A byte as a number of 32 bits.
+pub fn wide(x: u8) -> u32
+    ensures { λ r. ⌜ (r ≡ x) × (r < 256) ⌝ }
 {
     x as u32
 }

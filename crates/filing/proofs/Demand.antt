@@ -22,7 +22,7 @@ use Rattle.startcode.specs.declared.Kind.the-variants as kind
 use Rattle.grammar.specs.Grammar.{StreamUnit, Reading, Reads, units}
 use Rattle.grammar.specs.Rows.{Placed, placedUnits, rowsFrom, words, rows}
 use Rattle.grammar.specs.Reasons as inside
-use Rattle.grammar.specs.Reasons.{Numbered}
+use Rattle.grammar.specs.Reasons.{ByNumber}
 use Rattle.grammar.specs.Reader.{Stopped, Walk, stopAt, walkOfAny, walk, said, within, walkInto, filingInto}
 use Rattle.grammar.specs.Refusals.{OfBody, OutOfOrder, order, row, BadHeadExtension, short, twice, fields, other, BreaksBody, unknown, out-of-place, in-place, Stops, unended, cut, overlap, breaks, Refuses, too-long, no-code, in-unit, RefusesInto, refuses, full}
 use Rattle.grammar.specs.declared.Reason.{Reason as Inner}
@@ -89,7 +89,7 @@ said-count (bad x) n e = not-bad e
 
 pub said-stop : (w : Walk) (why : Inner) (at : ℕ) → stopAt why at ≡ mapGood length w → refused (inside.reasonNumber why) (at ∷ []) ≡ said length w
 said-stop (good ms) why at e = not-good e
-said-stop (bad x) why at e = ap (λ (x : Stopped). refused (inside.reasonNumber (x .reason)) (x .place ∷ [])) (bad-same e)
+said-stop (bad x) why at e = ap (λ (x : Stopped). refused (inside.reasonNumber (x .reason)) (x .offset ∷ [])) (bad-same e)
 
 -- ── answers and their numbers ──
 
@@ -115,14 +115,14 @@ reason-undone reason.Unended = refl
 reason-undone reason.Full = refl
 reason-undone reason.TooLong = refl
 
--- a refusal is told from its number and its place
+-- a refusal is told from its number and its offset
 pub refusalOf : ℕ → List ℕ → Refusal
-refusalOf n [] = record { reason = reasonOf n; place = 0 }
-refusalOf n (place ∷ more) = record { reason = reasonOf n; place = place }
+refusalOf n [] = record { reason = reasonOf n; offset = 0 }
+refusalOf n (offset ∷ more) = record { reason = reasonOf n; offset = offset }
 
-pub refusal-undone : (r : Refusal) → refusalOf (reasonNumber (r .reason)) (r .place ∷ []) ≡ r
+pub refusal-undone : (r : Refusal) → refusalOf (reasonNumber (r .reason)) (r .offset ∷ []) ≡ r
 unfolding refusalOf
-refusal-undone r = ap (λ (w : Reason). record { reason = w; place = r .place }) (reason-undone (r .reason))
+refusal-undone r = ap (λ (w : Reason). record { reason = w; offset = r .offset }) (reason-undone (r .reason))
 
 pub filing-one-to-one : OneToOne filingSays
 filing-one-to-one = undone filingSays back is
@@ -208,7 +208,7 @@ refuses-never (in-unit l h t) = stops-never (t .stops)
 -- ── demand 3 ──
 
 abbrev fullAnswer : FilingAnswer
-fullAnswer = answer.Refused (record { reason = reason.Full; place = 0 })
+fullAnswer = answer.Refused (record { reason = reason.Full; offset = 0 })
 
 module _ (s lent after : List ℕ) (r : FilingAnswer) (says : filingSays r ≡ filed s (length lent)) (words-are : after ≡ wordsAfter (filingInto s (length lent)) lent) where
   -- the units of a reading are those that the walk finds
@@ -277,10 +277,10 @@ module _ (s lent after : List ℕ) (r : FilingAnswer) (says : filingSays r ≡ f
 
 -- ── refusals ──
 
-pub refused-by : (s : List ℕ) (lent : ℕ) (r : FilingAnswer) → filingSays r ≡ filed s lent → (why : Refusal) → (r ≡ answer.Refused why) ↔ Numbered (RefusesInto s lent) (reasonNumber (why .reason)) (why .place)
+pub refused-by : (s : List ℕ) (lent : ℕ) (r : FilingAnswer) → filingSays r ≡ filed s lent → (why : Refusal) → (r ≡ answer.Refused why) ↔ ByNumber (RefusesInto s lent) (reasonNumber (why .reason)) (why .offset)
 unfolding filed
 refused-by s lent r says why =
-    let k = said-iff totals (walkInto s lent) (RefusesInto s lent) (into-stopped-iff s lent) (reasonNumber (why .reason)) (why .place) in
+    let k = said-iff totals (walkInto s lent) (RefusesInto s lent) (into-stopped-iff s lent) (reasonNumber (why .reason)) (why .offset) in
     ((λ e. k .0 (sym says ∙ ap filingSays e)), λ h. filing-one-to-one r (answer.Refused why) (says ∙ k .1 h))
 
 -- an answer with its words, and what they say of readings
@@ -303,5 +303,5 @@ counted-iff s n = (
   λ h. ap (said length) (walked-iff s (placedUnits (h .1 .0)) .1 (h .0, (h .1 .0, h .1 .1, refl))) ∙ ap done (units-length (h .1 .0) ∙ h .1 .2),
 )
 
-pub uncounted-iff : (s : List ℕ) (n at : ℕ) → (said length (walk s) ≡ refused n (at ∷ [])) ↔ Numbered (Refuses s) n at
+pub uncounted-iff : (s : List ℕ) (n at : ℕ) → (said length (walk s) ≡ refused n (at ∷ [])) ↔ ByNumber (Refuses s) n at
 uncounted-iff s = said-iff length (walk s) (Refuses s) (stopped-iff s)

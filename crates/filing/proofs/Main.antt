@@ -6,7 +6,7 @@ use mathlib.Core.Logic.{_↔_}
 use lib.ListN.{length}
 use Rattle.answers.specs.Answers.{done, refused, OneToOne}
 use Rattle.answers.specs.Limits.{longestStream}
-use Rattle.grammar.specs.Reasons.{Numbered}
+use Rattle.grammar.specs.Reasons.{ByNumber}
 use Rattle.grammar.specs.Refusals.{Refuses, RefusesInto}
 use Rattle.grammar.specs.Reader.{walk, said}
 use Rattle.filing.specs.Filing.{reasonNumber, filingSays, checkedSays, ReadingOf}
@@ -23,9 +23,9 @@ filing-one-to-one = demand.filing-one-to-one
 pub checked-one-to-one : OneToOne checkedSays
 checked-one-to-one = demand.checked-one-to-one
 
--- An answer of `file` is a refusal exactly where document 01 refuses the stream with its number, at its place.
+-- An answer of `file` is a refusal exactly where document 01 refuses the stream with its number, at its offset.
 pub refused-by : (stream : List ℕ) (lent : ℕ) (r : FilingAnswer) → filingSays r ≡ filed stream lent →
-    (why : Refusal) → (r ≡ answer.Refused why) ↔ Numbered (RefusesInto stream lent) (reasonNumber (why .reason)) (why .place)
+    (why : Refusal) → (r ≡ answer.Refused why) ↔ ByNumber (RefusesInto stream lent) (reasonNumber (why .reason)) (why .offset)
 refused-by = demand.refused-by
 
 -- `check` answers n units exactly where the stream is within the limit and has a reading of n units, and refuses it exactly where document 01
@@ -33,5 +33,5 @@ refused-by = demand.refused-by
 pub counted-iff : (stream : List ℕ) (n : ℕ) → (said length (walk stream) ≡ done n) ↔ ((length stream ≤ longestStream) × ReadingOf stream n)
 counted-iff = demand.counted-iff
 
-pub uncounted-iff : (stream : List ℕ) (n at : ℕ) → (said length (walk stream) ≡ refused n (at ∷ [])) ↔ Numbered (Refuses stream) n at
+pub uncounted-iff : (stream : List ℕ) (n at : ℕ) → (said length (walk stream) ≡ refused n (at ∷ [])) ↔ ByNumber (Refuses stream) n at
 uncounted-iff = demand.uncounted-iff

@@ -20,7 +20,7 @@ use Rattle.grammar.specs.declared.State.the-variants.{Start}
 use Rattle.grammar.specs.declared.Reason.the-variants.{NoCode, Unended}
 use Rattle.grammar.proofs.RowLaws.{rows-length}
 use Rattle.grammar.proofs.WalkLaws.{left, left-end}
-use Rattle.units.proofs.Units.{Advanced}
+use Rattle.units.proofs.UnitLaws.{Advanced}
 use Rattle.filing.specs.Filing.{wordsAfter}
 use Rattle.filing.specs.Inside.{Writable}
 

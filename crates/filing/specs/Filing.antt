@@ -45,12 +45,12 @@ wordsAfter (refused number carried) lent = lent
 -- the numbers of filing's answers
 abbrev pub filingSays : FilingAnswer → Outcome Totals
 filingSays (answer.Filed t) = done t
-filingSays (answer.Refused r) = refused (reasonNumber (r .reason)) (r .place ∷ [])
+filingSays (answer.Refused r) = refused (reasonNumber (r .reason)) (r .offset ∷ [])
 
 -- the numbers of the answers where no row is written
 abbrev pub checkedSays : Checked → Outcome ℕ
 checkedSays (checked.Good units) = done units
-checkedSays (checked.Refused r) = refused (reasonNumber (r .reason)) (r .place ∷ [])
+checkedSays (checked.Refused r) = refused (reasonNumber (r .reason)) (r .offset ∷ [])
 
 -- ── the same in the grammar's own words ──
 
@@ -63,7 +63,7 @@ pub record FiledByReading (stream lent after : List ℕ) (r : FilingAnswer) : Ty
   -- FILED n exactly where the stream is within the limit, has a reading of n units, and at least 3 n words were lent
   pub filed : (n : ℕ) → (r ≡ answer.Filed (record { units = n })) ↔ ((length stream ≤ longestStream) × ReadingOf stream n × (3 * n ≤ length lent))
   -- FULL exactly where it is within the limit, has a reading, and fewer were lent
-  pub full : (r ≡ answer.Refused (record { reason = reason.Full; place = 0 })) ↔ ((length stream ≤ longestStream) × ((n : ℕ) × ReadingOf stream n × (length lent < 3 * n)))
+  pub full : (r ≡ answer.Refused (record { reason = reason.Full; offset = 0 })) ↔ ((length stream ≤ longestStream) × ((n : ℕ) × ReadingOf stream n × (length lent < 3 * n)))
   -- of every reading the first words are the rows, and every word past them stays
   pub rows : (n : ℕ) → r ≡ answer.Filed (record { units = n }) → (x : Reading) → Reads stream x → after ≡ words (rowsOf x) ++ drop (3 * n) lent
   -- a refusal leaves all words

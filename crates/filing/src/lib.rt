@@ -32,10 +32,10 @@ pub enum Reason {
     TooLong,
 }
 
-// A refusal and its place, an offset in the stream.
+// A refusal and its offset in the stream.
 pub struct Refusal {
     pub reason: Reason,
-    pub place: usize,
+    pub offset: usize,
 }
 
 pub struct Totals {
@@ -93,12 +93,6 @@ fn reason_of(why: grammar::Reason) -> Reason
     }
 }
 
-fn wide(x: u8) -> u32
-    ensures { λ r. ⌜ (r ≡ x) × (r < 256) ⌝ }
-{
-    x as u32
-}
-
 // ── the first pass ──
 
 fn is_final(state: State) -> bool
@@ -152,14 +146,14 @@ pub fn check(stream: &[u8]) -> Checked
     if 16777216 < stream.len() {
         return Checked::Refused(Refusal {
             reason: Reason::TooLong,
-            place: 0,
+            offset: 0,
         });
     }
     match check_units(stream) {
         Walked::Good(units) => Checked::Good(units),
-        Walked::Stopped(why, place) => Checked::Refused(Refusal {
+        Walked::Stopped(why, offset) => Checked::Refused(Refusal {
             reason: reason_of(why),
-            place: place,
+            offset: offset,
         }),
     }
 }
@@ -172,7 +166,7 @@ fn put_row(rows: &mut [u32], i: usize, code: u8, offset: usize, length: usize)
     ensures { λ r. ⌜ now (rows .exit) ≡ take (i * 3) (now (rows .entry)) ++ (code ∷ offset ∷ length ∷ drop (i * 3 + 3) (now (rows .entry))) ⌝ }
 {
     let at = i * 3;
-    rows[at] = wide(code);
+    rows[at] = bits::wide(code);
     rows[at + 1] = offset as u32;
     rows[at + 2] = length as u32;
 }
@@ -217,7 +211,7 @@ pub fn file(stream: &[u8], rows: &mut [u32]) -> FilingAnswer
             if rows.len() / 3 < units {
                 return FilingAnswer::Refused(Refusal {
                     reason: Reason::Full,
-                    place: 0,
+                    offset: 0,
                 });
             }
             write_rows(stream, rows);

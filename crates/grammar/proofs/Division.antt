@@ -2,7 +2,7 @@
 use Prim.Native.Nat.{ℕ, _≤_, _<_, _+_}
 use mathlib.Core.Path.{_≡_, refl, sym, _∙_, ap, subst}
 use mathlib.Core.Logic.{_≢_, _⊎_, inl, inr, _↔_}
-use mathlib.Core.List.{List, [], _∷_, _++_, map, append-assoc, map-append}
+use mathlib.Core.List.{List, [], _∷_, _++_, map, append-assoc, map-append, cons-ne-nil}
 use mathlib.Core.Bool.{Bool, true, false}
 use native.Mathlib.Omega.{arith}
 use Rattle.bits.specs.Lists.{All}
@@ -14,7 +14,7 @@ use Rattle.layout.specs.declared.Place.the-variants as place
 use Rattle.layout.specs.declared.SequenceHeader.{SequenceHeader}
 use Rattle.grammar.specs.Lists.{AtMostOne, concatMap}
 use Rattle.grammar.specs.Grammar.{StreamUnit, IsKind, Picture, Group, Nonzero, Rising, Empty, IsEnding, Extension, IsHeader, IsDisplay, PictureExtra, HeadExtra, DisplayUnit, IsSlice, IsPictureHead, IsPicture, FirstIsI, IsGroup, sliceRule}
-use Rattle.grammar.specs.Rows.{Placed, placed, pictureRow, groupRow}
+use Rattle.grammar.specs.Rows.{Placed, placed, placedPicture, placedGroup}
 use Rattle.grammar.specs.Reader.{placeIn, final}
 use Rattle.grammar.specs.declared.SliceRule.{SliceRule}
 use Rattle.grammar.specs.declared.State.{State}
@@ -39,15 +39,15 @@ rising-from-zero : (rows : ℕ) (ss : List StreamUnit) → Rising ss × All (λ 
 rising-from-zero rows [] r = tt
 rising-from-zero rows (s ∷ ss) r = to-rising 0 rows s ss (omega arith) (r .0) (r .1)
 
-picture-marks : (p : Picture) (t : List Placed) → pictureRow p ++ t ≡ placed place.Picture (p .head) ∷ (map (placed place.Picture) (p .extras) ++ (map (placed place.Picture) (p .slices) ++ t))
+picture-marks : (p : Picture) (t : List Placed) → placedPicture p ++ t ≡ placed place.Picture (p .head) ∷ (map (placed place.Picture) (p .extras) ++ (map (placed place.Picture) (p .slices) ++ t))
 picture-marks p t = ap (λ (l : List Placed). placed place.Picture (p .head) ∷ (l ++ t)) (map-append (placed place.Picture) (p .extras) (p .slices)) ∙ simp append-assoc
 
 pictures-marks : (p : Picture) (ps : List Picture) (t : List Placed)
-    → concatMap pictureRow (p ∷ ps) ++ t ≡ placed place.Picture (p .head) ∷ (map (placed place.Picture) (p .extras) ++ (map (placed place.Picture) (p .slices) ++ (concatMap pictureRow ps ++ t)))
-pictures-marks p ps t = append-assoc (pictureRow p) (concatMap pictureRow ps) t ∙ picture-marks p (concatMap pictureRow ps ++ t)
+    → concatMap placedPicture (p ∷ ps) ++ t ≡ placed place.Picture (p .head) ∷ (map (placed place.Picture) (p .extras) ++ (map (placed place.Picture) (p .slices) ++ (concatMap placedPicture ps ++ t)))
+pictures-marks p ps t = append-assoc (placedPicture p) (concatMap placedPicture ps) t ∙ picture-marks p (concatMap placedPicture ps ++ t)
 
 groups-marks : (g : Group) (gs : List Group) (t : List Placed)
-    → concatMap groupRow (g ∷ gs) ++ t ≡ placed place.Picture (g .head) ∷ (map (placed place.Head) (g .extras) ++ (concatMap pictureRow (g .pictures) ++ (concatMap groupRow gs ++ t)))
+    → concatMap placedGroup (g ∷ gs) ++ t ≡ placed place.Picture (g .head) ∷ (map (placed place.Head) (g .extras) ++ (concatMap placedPicture (g .pictures) ++ (concatMap placedGroup gs ++ t)))
 groups-marks g gs t = simp append-assoc
 
 -- ── an extension's number is 2, or not ──
@@ -92,13 +92,13 @@ pub record RestGroups (ms : List Placed) : Type 0 where
   pub e : List StreamUnit
   pub groups : All (IsGroup) gs
   pub ending : IsEnding e
-  pub is : ms ≡ concatMap groupRow gs ++ map (placed place.Picture) e
+  pub is : ms ≡ concatMap placedGroup gs ++ map (placed place.Picture) e
 
 pub record RestPictures (h : SliceRule) (ms : List Placed) : Type 0 where
   pub ps : List Picture
   pub tail : List Placed
   pub pictures : All (IsPicture h) ps
-  pub is : ms ≡ concatMap pictureRow ps ++ tail
+  pub is : ms ≡ concatMap placedPicture ps ++ tail
   pub after : RestGroups tail
 
 pub record RestSlices (h : SliceRule) (n : ℕ) (ms : List Placed) : Type 0 where
@@ -139,9 +139,6 @@ Rest (Slices h n) ms = RestSlices h n ms
 Rest Ended ms = (ms ≡ []) ⊎ ((e : StreamUnit) × Empty kind.EditCode e × (ms ≡ placed place.Picture e ∷ []))
 Rest Closed ms = ms ≡ []
 
-cons-not-nil : {A : Type 0} (a : A) (l : List A) → a ∷ l ≢ []
-cons-not-nil a l e = let z : _≡_ {A = ℕ} 0 1 = cc in omega arith
-
 one-group : {ms : List Placed} (u : StreamUnit) (b : Place) (header : SequenceHeader) → IsKind kind.SequenceHeader u → IsHeader (u .body) header → b ≡ place.Picture → RestHead (sliceRule header) false ms → RestStart (placed b u ∷ ms)
 one-group u b header c k f r = record {
   rest = record {
@@ -151,7 +148,7 @@ one-group u b header c k f r = record {
     ending = r .after .after .ending;
     is = rw (f, r .is, r .after .is, r .after .after .is) (simp append-assoc);
   };
-  some-group = cons-not-nil _ _;
+  some-group = cons-ne-nil _ _;
 }
 
 one-picture : {h : SliceRule} {ms : List Placed} (u : StreamUnit) (b : Place) → IsPictureHead u → Nonzero (u .body) → b ≡ place.Picture → RestPicture h ms → RestPictures h (placed b u ∷ ms)
@@ -209,7 +206,7 @@ back (display {u} c k n d) b f ms r = let t : b ≡ place.Head = rw c at f in
     }
 back (first-picture c k) b f ms r = record { xs = []; tail = _; extras = tt; one-display = tt; none-more = λ d. tt; is = refl; after = one-picture _ b (inl c) k (rw c at f) r; first = c }
 back (extra {u} k) b f ms r = record { xs = u ∷ r .xs; tail = r .tail; extras = (k, r .extras); is = rw (f, r .is); after = r .after; some-slice = r .some-slice }
-back (first-slice {u} k o) b f ms r = record { xs = []; tail = _; extras = tt; is = refl; after = one-slice u b k o f r; some-slice = cons-not-nil _ _ }
+back (first-slice {u} k o) b f ms r = record { xs = []; tail = _; extras = tt; is = refl; after = one-slice u b k o f r; some-slice = cons-ne-nil _ _ }
 back (next-slice {u} k o) b f ms r = one-slice u b k o f r
 back (next-picture c k) b f ms r = no-slices (one-picture _ b c k f r)
 back (next-sequence {u} {header = header} c k) b f ms r = no-pictures (one-group u b header c k f r .rest)
@@ -257,13 +254,13 @@ picture-passes : (h : SliceRule) (p : Picture) (rest : List Placed) → IsPictur
     → Accepts (InPicture h) (map (placed place.Picture) (p .extras) ++ (map (placed place.Picture) (p .slices) ++ rest))
 picture-passes h p rest k a = extras-pass h (p .extras) _ (k .extras) (first-slices-pass h (p .slices) rest (k .some-slice) (k .slices) (λ w. rising-from-zero (h .rows) (p .slices) (k .order w)) a)
 
-pictures-pass : (h : SliceRule) (n : ℕ) (ps : List Picture) (rest : List Placed) → All (IsPicture h) ps → ((m : ℕ) → Accepts (Slices h m) rest) → Accepts (Slices h n) (concatMap pictureRow ps ++ rest)
+pictures-pass : (h : SliceRule) (n : ℕ) (ps : List Picture) (rest : List Placed) → All (IsPicture h) ps → ((m : ℕ) → Accepts (Slices h m) rest) → Accepts (Slices h n) (concatMap placedPicture ps ++ rest)
 pictures-pass h n [] rest k a = a n
 pictures-pass h n (p ∷ ps) rest k a = subst (Accepts (Slices h n)) (sym (pictures-marks p ps rest))
     (InPicture h, next-picture (k .0 .kind) (k .0 .body), refl, picture-passes h p _ (k .0) (λ m. pictures-pass h m ps rest (k .1) a))
 
 first-pictures-pass : (h : SliceRule) (d : Bool) (ps : List Picture) (rest : List Placed) → FirstIsI ps → All (IsPicture h) ps → ((m : ℕ) → Accepts (Slices h m) rest)
-    → Accepts (Head h d) (concatMap pictureRow ps ++ rest)
+    → Accepts (Head h d) (concatMap placedPicture ps ++ rest)
 first-pictures-pass h d [] rest i k a = absurd i
 first-pictures-pass h d (p ∷ ps) rest i k a = subst (Accepts (Head h d)) (sym (pictures-marks p ps rest))
     (InPicture h, first-picture i (k .0 .body), rw i refl, picture-passes h p _ (k .0) (λ m. pictures-pass h m ps rest (k .1) a))
@@ -287,16 +284,16 @@ head-extras-pass h d (x ∷ xs) rest k one none a = by-kind d (k .0) none (λ d 
     by-kind d (inr k) none t = by-number d (two-or-not (x .body)) (k .0) (k .1) (k .2) none t
 
 group-passes : (g : Group) (rest : List Placed) (k : IsGroup g) → ((h : SliceRule) (n : ℕ) → Accepts (Slices h n) rest)
-    → Accepts (Head (sliceRule (k .header)) false) (map (placed place.Head) (g .extras) ++ (concatMap pictureRow (g .pictures) ++ rest))
+    → Accepts (Head (sliceRule (k .header)) false) (map (placed place.Head) (g .extras) ++ (concatMap placedPicture (g .pictures) ++ rest))
 group-passes g rest k a = head-extras-pass _ false (g .extras) _ (k .extras) (k .one-display) no-false
     (λ d. first-pictures-pass _ d (g .pictures) rest (k .first) (k .pictures) (a _))
 
-groups-pass : (h : SliceRule) (n : ℕ) (gs : List Group) (e : List StreamUnit) → All (IsGroup) gs → IsEnding e → Accepts (Slices h n) (concatMap groupRow gs ++ map (placed place.Picture) e)
+groups-pass : (h : SliceRule) (n : ℕ) (gs : List Group) (e : List StreamUnit) → All (IsGroup) gs → IsEnding e → Accepts (Slices h n) (concatMap placedGroup gs ++ map (placed place.Picture) e)
 groups-pass h n [] e k i = ending-passes h n e i
 groups-pass h n (g ∷ gs) e k i = subst (Accepts (Slices h n)) (sym (groups-marks g gs (map (placed place.Picture) e)))
     (Head (sliceRule (k .0 .header)) false, next-sequence (k .0 .kind) (k .0 .body), refl, group-passes g _ (k .0) (λ h n. groups-pass h n gs e (k .1) i))
 
-pub complete : (gs : List Group) (e : List StreamUnit) → gs ≢ [] → All (IsGroup) gs → IsEnding e → Accepts Start (concatMap groupRow gs ++ map (placed place.Picture) e)
+pub complete : (gs : List Group) (e : List StreamUnit) → gs ≢ [] → All (IsGroup) gs → IsEnding e → Accepts Start (concatMap placedGroup gs ++ map (placed place.Picture) e)
 complete [] e n k i = absurd (n refl)
 complete (g ∷ gs) e n k i = subst (Accepts Start) (sym (groups-marks g gs (map (placed place.Picture) e)))
     (Head (sliceRule (k .0 .header)) false, sequence (k .0 .kind) (k .0 .body), refl, group-passes g _ (k .0) (λ h n. groups-pass h n gs e (k .1) i))

@@ -3,7 +3,7 @@ use Prim.Native.Nat.{ℕ, _≤_, _+_}
 use mathlib.Core.Path.{_≡_, refl, sym, _∙_, ap, subst}
 use mathlib.Core.Logic.{_≢_, _↔_}
 use mathlib.Core.List.{List, [], _∷_, _++_, map, map-append}
-use mathlib.Core.Bool.{true}
+use mathlib.Core.Bool.{true, cond}
 use lib.ListN.{length}
 use lib.Dec.{ltb}
 use borrow.Author.Tests.{ltb-false, le-ltb}
@@ -17,13 +17,14 @@ use Rattle.layout.specs.declared.Place.the-variants as place
 use Rattle.startcode.specs.Prefix.{begins}
 use Rattle.grammar.specs.Lists.{concatMap}
 use Rattle.grammar.specs.Grammar.{StreamUnit, bytes, Picture, Group, Reading, pictureUnits, groupUnits, units, Reads}
-use Rattle.grammar.specs.Rows.{Row, Placed, placed, pictureRow, groupRow, placedUnits, rowsFrom, rows}
-use Rattle.grammar.specs.Reader.{cut, placeIn, final, step, Walk, addUnit, continue, walkFrom, walkOfAny, walk, said, filing}
+use Rattle.grammar.specs.Rows.{Row, Placed, placed, placedPicture, placedGroup, placedUnits, rowsFrom, rows}
+use Rattle.grammar.specs.Reader.{cut, placeIn, final, step, Walk, stopAt, addUnit, continue, walkFrom, walkOfAny, walk, said, filing}
 use Rattle.grammar.specs.declared.Step.{Step}
 use Rattle.grammar.specs.declared.Step.the-variants.{Go as go, Stop as stop}
 use Rattle.answers.specs.Limits.{longestStream}
 use Rattle.grammar.specs.declared.State.{State}
 use Rattle.grammar.specs.declared.State.the-variants.{Start}
+use Rattle.grammar.specs.declared.Reason.the-variants.{Unended}
 use Rattle.grammar.proofs.CutLaws.{chunk, cut-units, uncut}
 use Rattle.grammar.proofs.Division.{Accepts, sound, complete}
 use Rattle.grammar.proofs.StepLaws.{step-sound, step-complete}
@@ -39,12 +40,12 @@ map-concat : {A B C : Type 0} (g : B → C) (f : A → List B) (k : A → List C
 map-concat g f k h [] = refl
 map-concat g f k h (a ∷ l) = map-append g (f a) (concatMap f l) ∙ rw (h a, map-concat g f k h l)
 
-group-units : (g : Group) → map unitOf (groupRow g) ≡ groupUnits g
-group-units g = ap (λ (l : List StreamUnit). g .head ∷ l) (map-append unitOf (map (placed place.Head) (g .extras)) (concatMap pictureRow (g .pictures))
-    ∙ rw (map-placed place.Head (g .extras), map-concat unitOf pictureRow pictureUnits (λ p. map-placed place.Picture (pictureUnits p)) (g .pictures)))
+group-units : (g : Group) → map unitOf (placedGroup g) ≡ groupUnits g
+group-units g = ap (λ (l : List StreamUnit). g .head ∷ l) (map-append unitOf (map (placed place.Head) (g .extras)) (concatMap placedPicture (g .pictures))
+    ∙ rw (map-placed place.Head (g .extras), map-concat unitOf placedPicture pictureUnits (λ p. map-placed place.Picture (pictureUnits p)) (g .pictures)))
 
 pub units-of-placed : (r : Reading) → map unitOf (placedUnits r) ≡ units r
-units-of-placed r = map-append unitOf (concatMap groupRow (r .groups)) (map (placed place.Picture) (r .ending)) ∙ rw (map-concat unitOf groupRow groupUnits group-units (r .groups), map-placed place.Picture (r .ending))
+units-of-placed r = map-append unitOf (concatMap placedGroup (r .groups)) (map (placed place.Picture) (r .ending)) ∙ rw (map-concat unitOf placedGroup groupUnits group-units (r .groups), map-placed place.Picture (r .ending))
 
 -- ── units from a state on ──
 
@@ -57,9 +58,15 @@ more-walked : (q q′ : State) (u : StreamUnit) (cs : List (List ℕ)) (ms ms′
 more-walked q q′ u cs ms ms′ s e w = subst (Walked q (chunk u ∷ cs)) e
     (record { chunks-are = ap (λ (l : List (List ℕ)). chunk u ∷ l) (w .chunks-are); accepts = (q′, step-sound q u q′ s, refl, w .accepts) })
 
+-- at the end the state decides
+walk-end : (q : State) (at : ℕ) → walkFrom [] q at ≡ cond (final q) (good []) (stopAt Unended at)
+unfolding walkFrom
+walk-end q at = refl
+
 walked-sound : (cs : List (List ℕ)) (q : State) (at : ℕ) (ms : List Placed) → walkFrom cs q at ≡ good ms → Walked q cs ms
 unfolding walkFrom
-walked-sound [] q at ms e = by-test (final q) (λ t. let n : [] ≡ ms = good-same (rw t at e) in subst (Walked q []) n (record { chunks-are = refl; accepts = t })) (λ f. not-good (rw f at e))
+walked-sound [] q at ms e = let w = sym (walk-end q at) ∙ e in
+    by-test (final q) (λ t. let n : [] ≡ ms = good-same (rw t at w) in subst (Walked q []) n (record { chunks-are = refl; accepts = t })) (λ f. not-good (rw f at w))
 walked-sound ([] ∷ cs) q at ms e = not-good e
 walked-sound ((c ∷ b) ∷ cs) q at ms e = by-step (step q u) refl (λ q′ ms′. walked-sound cs q′ (at + length (bytes u)) ms′) e
   where

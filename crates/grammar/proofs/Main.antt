@@ -9,7 +9,7 @@ use Rattle.answers.specs.Limits.{longestStream}
 use Rattle.answers.specs.Results.{good}
 use Rattle.grammar.specs.Grammar.{StreamUnit, Alone, Reading, Reads, units}
 use Rattle.grammar.specs.Rows.{Row, Placed, placedUnits, rows, rowLength, LengthIs}
-use Rattle.grammar.specs.Reasons.{Numbered}
+use Rattle.grammar.specs.Reasons.{ByNumber}
 use Rattle.grammar.specs.Reader.{stopAt, walk, walkInto, filing, filingInto}
 use Rattle.grammar.specs.Refusals.{BeginsSentence, Breaks, Refuses, RefusesInto}
 use Rattle.grammar.specs.declared.Reason.{Reason}
@@ -46,7 +46,7 @@ filed-iff = filed.filed-iff
 
 -- ── when it is refused ──
 
--- The walk stops for a reason, with the body's fault whole, and at a place exactly where document 01's refusals say so.
+-- The walk stops for a reason, with the body's fault whole, and at an offset exactly where document 01's refusals say so.
 pub stopped-iff : (stream : List ℕ) (why : Reason) (at : ℕ) → (walk stream ≡ stopAt why at) ↔ Refuses stream why at
 stopped-iff = refusals.stopped-iff
 
@@ -54,18 +54,18 @@ stopped-iff = refusals.stopped-iff
 pub into-stopped-iff : (stream : List ℕ) (lent : ℕ) (why : Reason) (at : ℕ) → (walkInto stream lent ≡ stopAt why at) ↔ RefusesInto stream lent why at
 into-stopped-iff = refusals.into-stopped-iff
 
--- The stream is refused with the reason's number, and with one place.
-pub refused-iff : (stream : List ℕ) (n at : ℕ) → (filing stream ≡ refused n (at ∷ [])) ↔ Numbered (Refuses stream) n at
+-- The stream is refused with the reason's number, and with one offset.
+pub refused-iff : (stream : List ℕ) (n at : ℕ) → (filing stream ≡ refused n (at ∷ [])) ↔ ByNumber (Refuses stream) n at
 refused-iff = refusals.refused-iff
 
-pub one-place : (stream : List ℕ) (n : ℕ) (carried : List ℕ) → filing stream ≡ refused n carried → (at : ℕ) × (carried ≡ at ∷ [])
-one-place = refusals.one-place
+pub one-offset : (stream : List ℕ) (n : ℕ) (carried : List ℕ) → filing stream ≡ refused n carried → (at : ℕ) × (carried ≡ at ∷ [])
+one-offset = refusals.one-offset
 
-pub into-iff : (stream : List ℕ) (lent n at : ℕ) → (filingInto stream lent ≡ refused n (at ∷ [])) ↔ Numbered (RefusesInto stream lent) n at
+pub into-iff : (stream : List ℕ) (lent n at : ℕ) → (filingInto stream lent ≡ refused n (at ∷ [])) ↔ ByNumber (RefusesInto stream lent) n at
 into-iff = refusals.into-iff
 
-pub into-one-place : (stream : List ℕ) (lent n : ℕ) (carried : List ℕ) → filingInto stream lent ≡ refused n carried → (at : ℕ) × (carried ≡ at ∷ [])
-into-one-place = refusals.into-one-place
+pub into-one-offset : (stream : List ℕ) (lent n : ℕ) (carried : List ℕ) → filingInto stream lent ≡ refused n carried → (at : ℕ) × (carried ≡ at ∷ [])
+into-one-offset = refusals.into-one-offset
 
 -- ── the first unit that breaks a rule ──
 

@@ -19,7 +19,7 @@ use Rattle.startcode.specs.Prefix.{begins}
 use Rattle.grammar.specs.Lists.{concatMap}
 use Rattle.grammar.specs.Grammar.{StreamUnit, bytes, Alone, units}
 use Rattle.grammar.specs.Rows.{Placed, placed, placedUnits, rowsFrom}
-use Rattle.grammar.specs.Reasons.{reasonNumber, Numbered}
+use Rattle.grammar.specs.Reasons.{reasonNumber, ByNumber}
 use Rattle.grammar.specs.Reader.{cut, final, step, placeIn, Stopped, Walk, stopAt, addUnit, continue, walkFrom, walkOfAny, walk, said, filing, within, walkInto, filingInto}
 use Rattle.grammar.specs.declared.Step.{Step}
 use Rattle.grammar.specs.declared.Step.the-variants.{Go as go, Stop as stop}
@@ -55,18 +55,18 @@ record Stuck (all : List (List ℕ)) (s : Stopped) : Type 0 where
   is : all ≡ map chunk us ++ rest
   at : At us state
   now : StopsNow state rest (s .reason)
-  place : s .place ≡ length (concatMap bytes us)
+  offset : s .offset ≡ length (concatMap bytes us)
 
-stopped : (why : Reason) (at : ℕ) (s : Stopped) → _≡_ {A = Walk} (stopAt why at) (bad s) → (s .reason ≡ why) × (s .place ≡ at)
-stopped why at s e = let z = bad-same e in (ap (λ (s : Stopped). s .reason) (sym z), ap (λ (s : Stopped). s .place) (sym z))
+stopped-as : (why : Reason) (at : ℕ) (s : Stopped) → _≡_ {A = Walk} (stopAt why at) (bad s) → (s .reason ≡ why) × (s .offset ≡ at)
+stopped-as why at s e = let z = bad-same e in (ap (λ (s : Stopped). s .reason) (sym z), ap (λ (s : Stopped). s .offset) (sym z))
 
 concat-more : (us : List StreamUnit) (u : StreamUnit) → concatMap bytes (us ++ u ∷ []) ≡ concatMap bytes us ++ bytes u
 concat-more [] u = append-nil (bytes u)
 concat-more (v ∷ us) u = rw (concat-more us u) (sym (append-assoc (bytes v) (concatMap bytes us) (bytes u)))
 
--- the place after one more unit
-place-more : (us : List StreamUnit) (u : StreamUnit) → length (concatMap bytes (us ++ u ∷ [])) ≡ length (concatMap bytes us) + length (bytes u)
-place-more us u = ap length (concat-more us u) ∙ length-append (concatMap bytes us) (bytes u)
+-- the offset after one more unit
+offset-more : (us : List StreamUnit) (u : StreamUnit) → length (concatMap bytes (us ++ u ∷ [])) ≡ length (concatMap bytes us) + length (bytes u)
+offset-more us u = ap length (concat-more us u) ∙ length-append (concatMap bytes us) (bytes u)
 
 chunks-more : (us : List StreamUnit) (u : StreamUnit) (cs : List (List ℕ)) → map chunk (us ++ u ∷ []) ++ cs ≡ map chunk us ++ chunk u ∷ cs
 chunks-more us u cs = ap (λ (l : List (List ℕ)). l ++ cs) (map-append chunk us (u ∷ [])) ∙ append-assoc (map chunk us) (chunk u ∷ []) cs
@@ -74,10 +74,10 @@ chunks-more us u cs = ap (λ (l : List (List ℕ)). l ++ cs) (map-append chunk u
 module _ (all : List (List ℕ)) (s : Stopped) where
   stuck : (cs : List (List ℕ)) (us : List StreamUnit) (q : State) (at : ℕ) → At us q → all ≡ map chunk us ++ cs → at ≡ length (concatMap bytes us) → walkFrom cs q at ≡ bad s → Stuck all s
   unfolding walkFrom
-  stuck [] us q at a i p e = by-test (final q) (λ t. not-bad (rw t at e)) (λ f. let (w, l) = stopped reason.Unended at s (rw f at e) in
-      record { us = us; state = q; rest = []; is = i; at = a; now = no-chunk refl f w; place = l ∙ p })
-  stuck ([] ∷ []) us q at a i p e = let (w, l) = stopped reason.Cut at s e in record { us = us; state = q; rest = [] ∷ []; is = i; at = a; now = last-empty refl w; place = l ∙ p }
-  stuck ([] ∷ c ∷ cs) us q at a i p e = let (w, l) = stopped reason.Overlap at s e in record { us = us; state = q; rest = [] ∷ c ∷ cs; is = i; at = a; now = empty c cs refl w; place = l ∙ p }
+  stuck [] us q at a i p e = by-test (final q) (λ t. not-bad (rw t at e)) (λ f. let (w, l) = stopped-as reason.Unended at s (rw f at e) in
+      record { us = us; state = q; rest = []; is = i; at = a; now = no-chunk refl f w; offset = l ∙ p })
+  stuck ([] ∷ []) us q at a i p e = let (w, l) = stopped-as reason.Cut at s e in record { us = us; state = q; rest = [] ∷ []; is = i; at = a; now = last-empty refl w; offset = l ∙ p }
+  stuck ([] ∷ c ∷ cs) us q at a i p e = let (w, l) = stopped-as reason.Overlap at s e in record { us = us; state = q; rest = [] ∷ c ∷ cs; is = i; at = a; now = empty c cs refl w; offset = l ∙ p }
   stuck ((c ∷ b) ∷ cs) us q at a i p e = by-step (step q u) refl (λ q′. stuck cs (us ++ u ∷ []) q′ (at + length (bytes u))) e
     where
       u : StreamUnit
@@ -86,8 +86,8 @@ module _ (all : List (List ℕ)) (s : Stopped) where
       by-step : (x : Step) → step q u ≡ x
           → ((q′ : State) → At (us ++ u ∷ []) q′ → all ≡ map chunk (us ++ u ∷ []) ++ cs → at + length (bytes u) ≡ length (concatMap bytes (us ++ u ∷ [])) → walkFrom cs q′ (at + length (bytes u)) ≡ bad s → Stuck all s)
           → continue x at (λ q′. addUnit (placed (placeIn q u) u) (walkFrom cs q′ (at + length (bytes u)))) ≡ bad s → Stuck all s
-      by-step (stop why) x ih e = let (w, l) = stopped why at s e in record { us = us; state = q; rest = chunk u ∷ cs; is = i; at = a; now = at-unit u cs refl (x ∙ ap stop (sym w)); place = l ∙ p }
-      by-step (go q′) x ih e = ih q′ (more a (step-sound q u q′ x)) (i ∙ sym (chunks-more us u cs)) (ap (λ (k : ℕ). k + length (bytes u)) p ∙ sym (place-more us u))
+      by-step (stop why) x ih e = let (w, l) = stopped-as why at s e in record { us = us; state = q; rest = chunk u ∷ cs; is = i; at = a; now = at-unit u cs refl (x ∙ ap stop (sym w)); offset = l ∙ p }
+      by-step (go q′) x ih e = ih q′ (more a (step-sound q u q′ x)) (i ∙ sym (chunks-more us u cs)) (ap (λ (k : ℕ). k + length (bytes u)) p ∙ sym (offset-more us u))
           (map-bad (λ ms. placed (placeIn q u) u ∷ ms) (walkFrom cs q′ (at + length (bytes u))) s e)
 
 stops-now : (q : State) (cs : List (List ℕ)) (why : Reason) (at : ℕ) → StopsNow q cs why → walkFrom cs q at ≡ stopAt why at
@@ -102,7 +102,7 @@ unfolding walkFrom
 unstuck start cs s e = e
 unstuck (more {us} {q} {q′} {u} a g) cs s e =
     ap (λ (l : List (List ℕ)). walkFrom l Start 0) (chunks-more us u cs)
-    ∙ unstuck a (chunk u ∷ cs) s (rw (step-complete g) (ap (addUnit (placed (placeIn q u) u)) (ap (walkFrom cs q′) (sym (place-more us u)) ∙ e)))
+    ∙ unstuck a (chunk u ∷ cs) s (rw (step-complete g) (ap (addUnit (placed (placeIn q u) u)) (ap (walkFrom cs q′) (sym (offset-more us u)) ∙ e)))
 
 -- ── streams of any length ──
 
@@ -127,7 +127,7 @@ stops-stuck a l left why (cut-short e m) = last-empty (rw (e, cut-law []) refl) 
 stops-stuck a l left why (overlap rest e h m) = empty (cut (h .0) .front) (cut (h .0) .chunks) (rw (e, cut-law rest, h .1, cut-law (h .0)) refl) m
 stops-stuck a l left why (breaks u rest e k d b) = at-unit u (cut rest .chunks) (rw (e, cut-unit u rest k d) refl) (step-iff a u why .1 b)
 
-chunks-refused : (s : List ℕ) → HasCode s → (x : Stopped) → walkFrom (cut s .chunks) Start 0 ≡ bad x → StopsAt s (x .reason) (x .place)
+chunks-refused : (s : List ℕ) → HasCode s → (x : Stopped) → walkFrom (cut s .chunks) Start 0 ≡ bad x → StopsAt s (x .reason) (x .offset)
 chunks-refused s h x e =
     let t = stuck (cut s .chunks) x (cut s .chunks) [] Start 0 start refl refl e in
     let c = uncut-ahead s (t .us) (t .rest) h (t .is) in
@@ -137,7 +137,7 @@ chunks-refused s h x e =
       stream-is = c .0;
       obey = sentences.begins-iff (t .us) .0 ((t .state, t .at), c .1);
       stops = stuck-stops (t .at) (c .1) (t .rest) (x .reason) (c .2) (t .now);
-      place = t .place;
+      offset = t .offset;
     }
 
 refused-chunks : (s : List ℕ) (why : Reason) (at : ℕ) → StopsAt s why at → walkFrom (cut s .chunks) Start 0 ≡ stopAt why at
@@ -146,19 +146,19 @@ refused-chunks s why at t =
     let k = stops-edge (t .stops) in
     let c : cut s .chunks ≡ map chunk (t .us) ++ cut (t .left) .chunks = ap (λ (l : List ℕ). cut l .chunks) (sym (t .stream-is)) ∙ cut-ahead (t .us) (t .left) (a .1) k in
     ap (λ (l : List (List ℕ)). walkFrom l Start 0) c
-    ∙ unstuck (a .0 .1) (cut (t .left) .chunks) (record { reason = why; place = at }) (stops-now (a .0 .0) (cut (t .left) .chunks) why _ (stops-stuck (a .0 .1) (a .1) (t .left) why (t .stops)) ∙ ap (stopAt why) (sym (t .place)))
+    ∙ unstuck (a .0 .1) (cut (t .left) .chunks) (record { reason = why; offset = at }) (stops-now (a .0 .0) (cut (t .left) .chunks) why _ (stops-stuck (a .0 .1) (a .1) (t .left) why (t .stops)) ∙ ap (stopAt why) (sym (t .offset)))
 
 -- ── every refusal ──
 
-stops-by : (s : List ℕ) (x : Stopped) → walk s ≡ bad x → Refuses s (x .reason) (x .place)
+stops-by : (s : List ℕ) (x : Stopped) → walk s ≡ bad x → Refuses s (x .reason) (x .offset)
 unfolding walk walkOfAny
 stops-by s x e =
     by-test (ltb longestStream (length s))
-    (λ t. let (w, l) = stopped reason.TooLong 0 x (rw t at e) in too-long (ltb-true _ _ t) w l)
+    (λ t. let (w, l) = stopped-as reason.TooLong 0 x (rw t at e) in too-long (ltb-true _ _ t) w l)
     (λ f. let l = ltb-false longestStream (length s) f in
     by-test (begins s)
     (λ b. let h = begins-iff s .0 b in in-unit l h (chunks-refused s h x (rw (f, b) at e)))
-    (λ b. let (w, p) = stopped reason.NoCode 0 x (rw (f, b) at e) in no-code l (not-begins-iff s .0 b) w p))
+    (λ b. let (w, p) = stopped-as reason.NoCode 0 x (rw (f, b) at e) in no-code l (not-begins-iff s .0 b) w p))
 
 by-stops : (s : List ℕ) (why : Reason) (at : ℕ) → Refuses s why at → walk s ≡ stopAt why at
 unfolding walk walkOfAny
@@ -166,22 +166,22 @@ by-stops s why at (too-long l m p) = rw (lt-ltb longestStream (length s) l, m, p
 by-stops s why at (no-code l h m p) = rw (le-ltb longestStream (length s) l, not-begins-iff s .1 h, m, p) refl
 by-stops s why at (in-unit l h t) = rw (le-ltb longestStream (length s) l, begins-iff s .1 h) (refused-chunks s why at t)
 
--- the walk stops for this reason at this place exactly when document 01 refuses the stream for it there
+-- the walk stops for this reason at this offset exactly when document 01 refuses the stream for it there
 pub stopped-iff : (s : List ℕ) (why : Reason) (at : ℕ) → (walk s ≡ stopAt why at) ↔ Refuses s why at
-stopped-iff s why at = (stops-by s (record { reason = why; place = at }), by-stops s why at)
+stopped-iff s why at = (stops-by s (record { reason = why; offset = at }), by-stops s why at)
 
 -- ── with words lent ──
 
-into-stops : (s : List ℕ) (lent : ℕ) (x : Stopped) → walkInto s lent ≡ bad x → RefusesInto s lent (x .reason) (x .place)
+into-stops : (s : List ℕ) (lent : ℕ) (x : Stopped) → walkInto s lent ≡ bad x → RefusesInto s lent (x .reason) (x .offset)
 unfolding walkInto
 into-stops s lent x e = by-walk (walk s) refl e
   where
-    by-walk : (w : Walk) → walk s ≡ w → within lent w ≡ bad x → RefusesInto s lent (x .reason) (x .place)
+    by-walk : (w : Walk) → walk s ≡ w → within lent w ≡ bad x → RefusesInto s lent (x .reason) (x .offset)
     by-walk (bad y) e f = refuses-filing (stops-by s x (e ∙ f))
     by-walk (good ms) e f =
         by-test (ltb lent (3 * length ms))
         (λ t.
-        let (w, p) = stopped reason.Full 0 x (rw t at f) in
+        let (w, p) = stopped-as reason.Full 0 x (rw t at f) in
         let k = walked-iff s ms .0 e in
         let i : length ms ≡ length (units (k .1 .0)) = ap length (k .1 .2) ∙ units-length (k .1 .0) in
         let l = ltb-true lent (3 * length ms) t in
@@ -194,36 +194,36 @@ stops-into s lent why at (refuses-filing k) = rw (by-stops s why at k) refl
 stops-into s lent why at (full l r k b m p) = rw (walked-iff s (placedUnits r) .1 (l, (r, k, refl)), units-length r, lt-ltb lent (3 * length (units r)) b, m, p) refl
 
 pub into-stopped-iff : (s : List ℕ) (lent : ℕ) (why : Reason) (at : ℕ) → (walkInto s lent ≡ stopAt why at) ↔ RefusesInto s lent why at
-into-stopped-iff s lent why at = (into-stops s lent (record { reason = why; place = at }), stops-into s lent why at)
+into-stopped-iff s lent why at = (into-stops s lent (record { reason = why; offset = at }), stops-into s lent why at)
 
 -- ── the same by document 01's numbers ──
 
 module _ {A : Type 0} (view : List Placed → A) where
   -- what is said of a walk that stops
-  pub said-refused : (w : Walk) (n : ℕ) (carried : List ℕ) → said view w ≡ refused n carried → (x : Stopped) × (w ≡ bad x) × (n ≡ reasonNumber (x .reason)) × (carried ≡ x .place ∷ [])
+  pub said-refused : (w : Walk) (n : ℕ) (carried : List ℕ) → said view w ≡ refused n carried → (x : Stopped) × (w ≡ bad x) × (n ≡ reasonNumber (x .reason)) × (carried ≡ x .offset ∷ [])
   said-refused (good ms) n carried e = not-refused e
   said-refused (bad x) n carried e = (x, refl, cc, cc)
 
-  pub said-iff : (w : Walk) (Refused : Reason → ℕ → Type 0) → ((why : Reason) (at : ℕ) → (w ≡ stopAt why at) ↔ Refused why at) → (n at : ℕ) → (said view w ≡ refused n (at ∷ [])) ↔ Numbered Refused n at
+  pub said-iff : (w : Walk) (Refused : Reason → ℕ → Type 0) → ((why : Reason) (at : ℕ) → (w ≡ stopAt why at) ↔ Refused why at) → (n at : ℕ) → (said view w ≡ refused n (at ∷ [])) ↔ ByNumber Refused n at
   said-iff w Refused iff n at = (
-    (λ e. let (x, s, m, c) = said-refused w n (at ∷ []) e in let i : x .place ≡ at = cc in (x .reason, rw i at (iff (x .reason) (x .place) .0 s), m)),
+    (λ e. let (x, s, m, c) = said-refused w n (at ∷ []) e in let i : x .offset ≡ at = cc in (x .reason, rw i at (iff (x .reason) (x .offset) .0 s), m)),
     λ h. ap (said view) (iff (h .0) at .1 (h .1)) ∙ ap (λ (n : ℕ). refused n (at ∷ [])) (sym (h .2)),
   )
 
--- a stream is refused with this number and this place exactly when document 01 says
-pub refused-iff : (s : List ℕ) (n at : ℕ) → (filing s ≡ refused n (at ∷ [])) ↔ Numbered (Refuses s) n at
+-- a stream is refused with this number and this offset exactly when document 01 says
+pub refused-iff : (s : List ℕ) (n at : ℕ) → (filing s ≡ refused n (at ∷ [])) ↔ ByNumber (Refuses s) n at
 unfolding filing
 refused-iff s = said-iff (rowsFrom 0) (walk s) (Refuses s) (stopped-iff s)
 
--- and every refusal carries one place
-pub one-place : (s : List ℕ) (n : ℕ) (carried : List ℕ) → filing s ≡ refused n carried → (at : ℕ) × (carried ≡ at ∷ [])
+-- and every refusal carries one offset
+pub one-offset : (s : List ℕ) (n : ℕ) (carried : List ℕ) → filing s ≡ refused n carried → (at : ℕ) × (carried ≡ at ∷ [])
 unfolding filing
-one-place s n carried e = let r = said-refused (rowsFrom 0) (walk s) n carried e in (r .0 .place, r .3)
+one-offset s n carried e = let r = said-refused (rowsFrom 0) (walk s) n carried e in (r .0 .offset, r .3)
 
-pub into-iff : (s : List ℕ) (lent n at : ℕ) → (filingInto s lent ≡ refused n (at ∷ [])) ↔ Numbered (RefusesInto s lent) n at
+pub into-iff : (s : List ℕ) (lent n at : ℕ) → (filingInto s lent ≡ refused n (at ∷ [])) ↔ ByNumber (RefusesInto s lent) n at
 unfolding filingInto
 into-iff s lent = said-iff (rowsFrom 0) (walkInto s lent) (RefusesInto s lent) (into-stopped-iff s lent)
 
-pub into-one-place : (s : List ℕ) (lent n : ℕ) (carried : List ℕ) → filingInto s lent ≡ refused n carried → (at : ℕ) × (carried ≡ at ∷ [])
+pub into-one-offset : (s : List ℕ) (lent n : ℕ) (carried : List ℕ) → filingInto s lent ≡ refused n carried → (at : ℕ) × (carried ≡ at ∷ [])
 unfolding filingInto
-into-one-place s lent n carried e = let r = said-refused (rowsFrom 0) (walkInto s lent) n carried e in (r .0 .place, r .3)
+into-one-offset s lent n carried e = let r = said-refused (rowsFrom 0) (walkInto s lent) n carried e in (r .0 .offset, r .3)

@@ -45,15 +45,15 @@ use Rattle.grammar.proofs.ShapeLaws.{kindsIn, Has, has-in-place, left-g
 
 -- ── one rule at a time ──
 
-went : {P : Type 0} {q : State} {why : Reason} → go q ≡ stop why → P
-went e = let z : _≡_ {A = ℕ} 0 1 = cc in absurd (omega arith)
+not-stop : {P : Type 0} {q : State} {why : Reason} → go q ≡ stop why → P
+not-stop e = let z : _≡_ {A = ℕ} 0 1 = cc in absurd (omega arith)
 
 same-stop : (m n : Reason) → (stop m ≡ stop n) ↔ (n ≡ m)
 same-stop m n = ((λ e. cc), λ e. cc)
 
 -- a body that is refused by its result, where what the result refuses is stated
 by-iff : {A : Type 0} (r : Result Fault A) (next : A → State) (Broken : Fault → Type 0) → ((f : Fault) → (r ≡ bad f) ↔ Broken f) → (why : Reason) → (by r next ≡ stop why) ↔ OfBody Broken why
-by-iff (good a) next Broken iff why = (went, λ b. not-bad (iff (b .0) .1 (b .1)))
+by-iff (good a) next Broken iff why = (not-stop, λ b. not-bad (iff (b .0) .1 (b .1)))
 by-iff (bad f) next Broken iff why = ((λ e. (f, iff f .0 refl, cc)), λ b. let e = iff (b .0) .1 (b .1) in let m = b .2 in cc)
 
 zero-nonzero : (body : List ℕ) → allZero body ≡ true → ¬ Nonzero body
@@ -64,12 +64,12 @@ nonzero-zero body n = by-test (allZero body) (λ t. t) (λ f. absurd (n (false-n
 
 picture-iff : (rule : SliceRule) (body : List ℕ) (why : Reason) → (pictureStep rule body ≡ stop why) ↔ NoNonzero body why
 picture-iff rule body why = (
-  (λ e. by-test (allZero body) (λ t. (zero-nonzero body t, same-stop (reason.Body fault.Short) why .0 (rw t at e))) (λ f. went (rw f at e))),
+  (λ e. by-test (allZero body) (λ t. (zero-nonzero body t, same-stop (reason.Body fault.Short) why .0 (rw t at e))) (λ f. not-stop (rw f at e))),
   λ k. rw (nonzero-zero body (k .0)) (same-stop (reason.Body fault.Short) why .1 (k .1)),
 )
 
 ending-iff : (body : List ℕ) (next : State) (why : Reason) → (endingStep body next ≡ stop why) ↔ NotEmpty body why
-ending-iff [] next why = (went, λ k. absurd (k .0 refl))
+ending-iff [] next why = (not-stop, λ k. absurd (k .0 refl))
 ending-iff (x ∷ body) next why = ((λ e. ((λ f. let z : _≡_ {A = ℕ} 0 1 = cc in absurd (omega arith)), same-stop (reason.Body fault.Stuffing) why .0 e)), λ k. same-stop (reason.Body fault.Stuffing) why .1 (k .1))
 
 -- ── slices ──
@@ -102,7 +102,7 @@ module _ (us : List StreamUnit) (rule : SliceRule) (least : ℕ) (ruled : Ruled 
       (λ f.
       by-test (rule .tested && leb (rule .rows) (u .code))
       (λ t. let a = and-true _ _ t in inr (bad-slice (false-nonzero (u .body) nz) (a .0) (row (in-order (a .0) f) (leb-true _ _ (a .1)) (same-stop reason.SliceRow why .0 (rw (nz, f, t) at e)))))
-      (λ g. went (rw (nz, f, g) at e))))
+      (λ g. not-stop (rw (nz, f, g) at e))))
     where
       in-order : rule .tested ≡ true → rule .tested && ltb (u .code) least ≡ false → ¬ NotGreater us u
       in-order t f g = contrary (ltb (u .code) least) (lt-ltb (u .code) least (bound u .0 g)) (rw t at f)
@@ -198,7 +198,7 @@ module _ (us : List StreamUnit) (u : StreamUnit) where
   header-entry is = by-iff (headerResult (u .body)) (λ header. Head (sliceRule header) false) (BreaksLayout Header (u .body)) (header-bad (u .body))
 
   user-entry : (q : State) → Entry us u (kind.UserData, go q)
-  user-entry q is why = (went, λ b. absurd b)
+  user-entry q is why = (not-stop, λ b. absurd b)
 
   slice-entry : (rule : SliceRule) (least : ℕ) → Ruled us rule → Least us least → Entry us u (kind.Slice, sliceStep rule least u)
   slice-entry rule least r l is = slice-iff us rule least r l u
@@ -267,7 +267,7 @@ pub breaks-iff : (us : List StreamUnit) (u : StreamUnit) → BeginsSentence us �
 breaks-iff us u b k = let a = begins-iff us .1 b in (
   (λ h s.
       let g = left-goes us u (s .0) (sentence-left us (u ∷ s .0) (rw append-assoc at (s .1))) in
-      went (sym (step-complete (g .2 .1)) ∙ breaks-step (g .1) u (h .0) (h .1))),
+      not-stop (sym (step-complete (g .2 .1)) ∙ breaks-step (g .1) u (h .0) (h .1))),
   λ n. by-step (a .0 .0) (a .0 .1) (a .1) (step (a .0 .0) u) refl n,
 )
   where

@@ -254,7 +254,6 @@ vertical (a ∷ b ∷ c ∷ d ∷ []) header k e = absurd (k .1 .1 .1 .1)
 vertical (a ∷ b ∷ c ∷ d ∷ v ∷ rest) header k e = rw (fifth a b c d v header rest e) (k .1 .1 .1 .1 .0)
 
 pub some-row : (body : List ℕ) (header : SequenceHeader) → IsHeader body header → 1 ≤ macroblockRows header
-unfolding macroblockRows
 some-row body header k = let n = vertical (k .0) header (k .1 .allowed) (k .2) in omega arith
 
 -- a header whose slices are not tested

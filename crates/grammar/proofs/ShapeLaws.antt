@@ -28,7 +28,7 @@ use Rattle.grammar.specs.declared.State.the-variants.{Start, Head, Pictu
 use Rattle.grammar.proofs.KindLaws.{same-true, kind-or-not}
 use Rattle.layout.proofs.NumberLaws.{number-one}
 use Rattle.grammar.proofs.Division.{Goes, sequence, user, extension, display, first-picture, extra, first-slice, next-slice, next-picture, next-sequence, end, edit, end-edit, Accepts}
-use Rattle.grammar.proofs.StepLaws.{Some, stopped, step-complete}
+use Rattle.grammar.proofs.StepLaws.{Some, not-go, step-complete}
 use Rattle.grammar.proofs.Sentences.{At, start, more, Left, sentence-left, sentence-from, begins-iff, plainHeader, plain-header, plainUnit, plain-alone, alone-cut, empty, oneByte, one-nonzero}
 
 -- ── the state with no header and no slice numbers ──
@@ -111,21 +111,21 @@ kinds-are (Slices rule n) u = refl
 kinds-are Ended u = refl
 kinds-are Closed u = refl
 
-went-on : (k : Kind) (l : List (Kind × Step)) (q : State) → choose k l ≡ go q → Has k (kindsIn l)
-went-on k [] q e = let z : _≡_ {A = ℕ} 0 1 = cc in absurd (omega arith)
-went-on k (x ∷ l) q e = by-test (sameKind k (x .0)) (λ t. inl (same-true k (x .0) t)) (λ f. inr (went-on k l q (rw f at e)))
+choose-has : (k : Kind) (l : List (Kind × Step)) (q : State) → choose k l ≡ go q → Has k (kindsIn l)
+choose-has k [] q e = let z : _≡_ {A = ℕ} 0 1 = cc in absurd (omega arith)
+choose-has k (x ∷ l) q e = by-test (sameKind k (x .0)) (λ t. inl (same-true k (x .0) t)) (λ f. inr (choose-has k l q (rw f at e)))
 
 -- where the grammar goes on, the unit has a kind and the table has it
 goes-kind : {q q′ : State} {u : StreamUnit} → Goes q u q′ → (k : Kind) × IsKind k u
 unfolding step
 goes-kind {q} {q′} {u} g = elim (kind-or-not (u .code)) [
   | inl k ↦ k
-  | inr r ↦ let e = step-complete g in stopped (rw r at e)
+  | inr r ↦ let e = step-complete g in not-go (rw r at e)
 ]
 
 goes-has : {q q′ : State} {u : StreamUnit} → Goes q u q′ → (k : Kind) → IsKind k u → Has k (kindsAt (plain q))
 unfolding step
-goes-has {q} {q′} {u} g k is = let e = step-complete g in rw kinds-are at (went-on k (table q u) q′ (rw is at e))
+goes-has {q} {q′} {u} g k is = let e = step-complete g in rw kinds-are at (choose-has k (table q u) q′ (rw is at e))
 
 -- ── the table has the kind: the unit is in place ──
 
@@ -152,7 +152,6 @@ unfolding opaqueUnit
 opaque-extension = record { some-byte = λ e. let z : _≡_ {A = ℕ} 0 1 = cc in omega arith; copyright = λ e. absurd (not-number 4 (omega arith) e) }
 
 untested : {P : Type 0} → plainRule .tested ≡ true → P
-unfolding slicesTested
 untested t = let z : _≡_ {A = ℕ} 0 1 = cc in absurd (omega arith)
 
 room : (q : State) (k : Kind) → Has k (kindsAt (plain q)) → Room (plain q) k

@@ -36,8 +36,8 @@ use Rattle.grammar.proofs.Division.{number-two, number-not-two, Goes, s
 
 -- ── tests ──
 
-pub stopped : {P : Type 0} {why : Reason} {q : State} → stop why ≡ go q → P
-stopped e = let z : _≡_ {A = ℕ} 0 1 = cc in absurd (omega arith)
+pub not-go : {P : Type 0} {why : Reason} {q : State} → stop why ≡ go q → P
+not-go e = let z : _≡_ {A = ℕ} 0 1 = cc in absurd (omega arith)
 
 zero-true : (b : List ℕ) → allZero b ≡ true → All (λ x. x ≡ 0) b
 zero-true [] e = tt
@@ -72,32 +72,32 @@ None l = All (λ c. c .0 ≡ false) l
 -- a guard is passed exactly where no test holds
 passed : (l : List (Bool × Reason)) (s : Step) (q : State) → guard l s ≡ go q → None l × (s ≡ go q)
 passed [] s q e = (tt, e)
-passed (c ∷ l) s q e = by-test (c .0) (λ t. stopped (rw t at e)) (λ f. let r = passed l s q (rw f at e) in ((f, r .0), r .1))
+passed (c ∷ l) s q e = by-test (c .0) (λ t. not-go (rw t at e)) (λ f. let r = passed l s q (rw f at e) in ((f, r .0), r .1))
 
 pass : (l : List (Bool × Reason)) (s : Step) → None l → guard l s ≡ s
 pass [] s h = refl
 pass (c ∷ l) s h = rw (h .0) (pass l s (h .1))
 
 -- reading a body goes on exactly where it succeeds
-went : {A : Type 0} (r : Result Fault A) (next : A → State) (q : State) → by r next ≡ go q → (a : A) × (r ≡ good a) × (next a ≡ q)
-went (good a) next q e = (a, refl, cc)
-went (bad fault) next q e = stopped e
+by-go : {A : Type 0} (r : Result Fault A) (next : A → State) (q : State) → by r next ≡ go q → (a : A) × (r ≡ good a) × (next a ≡ q)
+by-go (good a) next q e = (a, refl, cc)
+by-go (bad fault) next q e = not-go e
 
 goes : {A : Type 0} (r : Result Fault A) (next : A → State) (a : A) → r ≡ good a → by r next ≡ go (next a)
 goes r next a e = rw e
 
--- the step chosen
+-- the step choose-go
 abbrev Took : Kind → List (Kind × Step) → State → Type 0
 Took k l q = Some (λ c. (k ≡ c .0) × (c .1 ≡ go q)) l
 
-chosen : (k : Kind) (l : List (Kind × Step)) (q : State) → choose k l ≡ go q → Took k l q
-chosen k [] q e = stopped e
-chosen k (c ∷ l) q e = by-test (sameKind k (c .0)) (λ t. inl (same-true k (c .0) t, rw t at e)) (λ f. inr (chosen k l q (rw f at e)))
+choose-go : (k : Kind) (l : List (Kind × Step)) (q : State) → choose k l ≡ go q → Took k l q
+choose-go k [] q e = not-go e
+choose-go k (c ∷ l) q e = by-test (sameKind k (c .0)) (λ t. inl (same-true k (c .0) t, rw t at e)) (λ f. inr (choose-go k l q (rw f at e)))
 
 -- ── steps and the grammar's rules ──
 
 header-step : (body : List ℕ) (q : State) → headerStep body ≡ go q → (header : SequenceHeader) × IsHeader body header × (Head (sliceRule header) false ≡ q)
-header-step body q e = let r = went (headerResult body) _ q e in (r .0, header-good body (r .0) .0 (r .1), r .2)
+header-step body q e = let r = by-go (headerResult body) _ q e in (r .0, header-good body (r .0) .0 (r .1), r .2)
 
 picture-step : (rule : SliceRule) (body : List ℕ) (q : State) → pictureStep rule body ≡ go q → Nonzero body × (InPicture rule ≡ q)
 picture-step rule body q e = let r = passed ((allZero body, _) ∷ []) (go (InPicture rule)) q e in (false-nonzero body (r .0 .0), cc (r .1))
@@ -141,18 +141,18 @@ head-step rule d u q c e =
     (λ t.
     let s : displayStep rule d (u .body) ≡ go q = rw t at e in
     let r = passed ((displayShort (u .body), _) ∷ (d, _) ∷ []) (by (displayOf (u .body)) (λ x. Head rule true)) q s in
-    let w = went (displayOf (u .body)) (λ x. Head rule true) q (r .1) in
+    let w = by-go (displayOf (u .body)) (λ x. Head rule true) q (r .1) in
     let n = number-two (u .body) .0 t in
     subst (λ d. Goes (Head rule d) u q) (sym (r .0 .1 .0))
     (subst (Goes (Head rule false) u) (w .2) (display c (display-extension (u .body) n) n (display-good (u .body) .0 (w .0, w .1)))))
     (λ f.
     let s : by (extensionResult place.Head (u .body)) (λ x. Head rule d) ≡ go q = rw f at e in
-    let w = went (extensionResult place.Head (u .body)) (λ x. Head rule d) q s in
+    let w = by-go (extensionResult place.Head (u .body)) (λ x. Head rule d) q s in
     subst (Goes (Head rule d) u) (w .2) (extension c (head-good (u .body) f .0 (w .0, w .1)) (number-not-two (u .body) .0 f)))
 
 picture-extra : (rule : SliceRule) (u : StreamUnit) (q : State) → IsKind kind.Extension u → pictureExtension rule (u .body) ≡ go q → Goes (InPicture rule) u q
 picture-extra rule u q c e =
-    let w = went (extensionResult place.Picture (u .body)) (λ x. InPicture rule) q e in
+    let w = by-go (extensionResult place.Picture (u .body)) (λ x. InPicture rule) q e in
     subst (Goes (InPicture rule) u) (w .2) (extra (inr (c, picture-good (u .body) .0 (w .0, w .1))))
 
 -- ── from a step to the grammar ──
@@ -183,8 +183,8 @@ unfolding step
 step-sound q u q′ e = by-outcome (kindOf (u .code)) refl e
   where
     by-outcome : (o : Outcome Kind) → kindOf (u .code) ≡ o → byKind o (λ k. choose k (table q u)) ≡ go q′ → Goes q u q′
-    by-outcome (done k) is e = took-sound k u is q q′ (chosen k (table q u) q′ e)
-    by-outcome (refused n carried) is e = stopped e
+    by-outcome (done k) is e = took-sound k u is q q′ (choose-go k (table q u) q′ e)
+    by-outcome (refused n carried) is e = not-go e
 
 -- ── from the grammar to a step ──
 

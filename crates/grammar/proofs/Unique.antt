@@ -71,30 +71,30 @@ top [] = refused 0 []
 top (u ∷ us) = kindOf (u .code)
 
 -- parts of kind Ok, each followed by what Next allows, are told apart from what follows
-Told : {A : Type 0} → (A → List StreamUnit) → (A → Type 0) → (Outcome Kind → Type 0) → Type 0
-Told {A} f Ok Next = (a b : A) (x y : List StreamUnit) → Ok a → Ok b → Next (top x) → Next (top y) → f a ++ x ≡ f b ++ y → (a ≡ b) × (x ≡ y)
+SplitsOnce : {A : Type 0} → (A → List StreamUnit) → (A → Type 0) → (Outcome Kind → Type 0) → Type 0
+SplitsOnce {A} f Ok Next = (a b : A) (x y : List StreamUnit) → Ok a → Ok b → Next (top x) → Next (top y) → f a ++ x ≡ f b ++ y → (a ≡ b) × (x ≡ y)
 
-run : (P : Outcome Kind → Type 0) → Told (λ us. us) (All (λ u. P (kindOf (u .code)))) (λ o. ¬ P o)
-unfolding Told top
+run : (P : Outcome Kind → Type 0) → SplitsOnce (λ us. us) (All (λ u. P (kindOf (u .code)))) (λ o. ¬ P o)
+unfolding SplitsOnce top
 run P [] [] x y ha hb nx ny e = (refl, e)
 run P [] (v ∷ b) x y ha hb nx ny e = absurd (nx (rw e (hb .0)))
 run P (u ∷ a) [] x y ha hb nx ny e = absurd (ny (rw (sym e) (ha .0)))
 run P (u ∷ a) (v ∷ b) x y ha hb nx ny e = let r = run P a b x y (ha .1) (hb .1) nx ny (cc) in let p = r .0 in (cc, r .1)
 
 module _ {A : Type 0} (f : A → List StreamUnit) (Ok : A → Type 0) (Start Next Follow : Outcome Kind → Type 0)
-    (told : Told f Ok Next) (starts : (a : A) (x : List StreamUnit) → Ok a → Start (top (f a ++ x)))
+    (split : SplitsOnce f Ok Next) (starts : (a : A) (x : List StreamUnit) → Ok a → Start (top (f a ++ x)))
     (start-next : (o : Outcome Kind) → Start o → Next o) (follow-next : (o : Outcome Kind) → Follow o → Next o) (clash : (o : Outcome Kind) → Follow o → Start o → ⊥) where
   next : (l : List A) (x : List StreamUnit) → All Ok l → Follow (top x) → Next (top (concatMap f l ++ x))
   next [] x h n = follow-next (top x) n
   next (a ∷ l) x h n = rw append-assoc (start-next _ (starts a (concatMap f l ++ x) (h .0)))
 
-  many : Told (concatMap f) (All Ok) Follow
-  unfolding Told
+  many : SplitsOnce (concatMap f) (All Ok) Follow
+  unfolding SplitsOnce
   many [] [] x y ha hb nx ny e = (refl, e)
   many [] (b ∷ bs) x y ha hb nx ny e = absurd (clash _ nx (rw (e, append-assoc) (starts b (concatMap f bs ++ y) (hb .0))))
   many (a ∷ as′) [] x y ha hb nx ny e = absurd (clash _ ny (rw (sym e, append-assoc) (starts a (concatMap f as′ ++ x) (ha .0))))
   many (a ∷ as′) (b ∷ bs) x y ha hb nx ny e =
-      let d = told a b (concatMap f as′ ++ x) (concatMap f bs ++ y) (ha .0) (hb .0) (next as′ x (ha .1) nx) (next bs y (hb .1) ny) (simp append-assoc at e) in
+      let d = split a b (concatMap f as′ ++ x) (concatMap f bs ++ y) (ha .0) (hb .0) (next as′ x (ha .1) nx) (next bs y (hb .1) ny) (simp append-assoc at e) in
       let r = many as′ bs x y (ha .1) (hb .1) nx ny (d .1) in
       let p = d .0 in let q = r .0 in
       (cc, r .1)
@@ -149,9 +149,9 @@ unfolding top
 slices-top [] x ne h = absurd (ne refl)
 slices-top (s ∷ ss) x ne h = h .0 .0
 
-picture-told : Told pictureUnits APicture (λ o. ¬ Slice o)
-unfolding Told APicture
-picture-told p q x y hp hq nx ny e =
+picture-split : SplitsOnce pictureUnits APicture (λ o. ¬ Slice o)
+unfolding SplitsOnce APicture
+picture-split p q x y hp hq nx ny e =
     let r = run Extra (p .extras) (q .extras) (p .slices ++ x) (q .slices ++ y)
     (all-map picture-extra (p .extras) (hp .1 .extras)) (all-map picture-extra (q .extras) (hq .1 .extras))
     (slice-no-extra _ (slices-top (p .slices) x (hp .1 .some-slice) (hp .1 .slices)))
@@ -166,9 +166,9 @@ picture-told p q x y hp hq nx ny e =
     tails : p .extras ++ (p .slices ++ x) ≡ q .extras ++ (q .slices ++ y)
     tails = cc (append-assoc (p .extras) (p .slices) x, append-assoc (q .extras) (q .slices) y)
 
-pictures-told : Told (concatMap pictureUnits) (All APicture) AfterGroup
+pictures-split : SplitsOnce (concatMap pictureUnits) (All APicture) AfterGroup
 unfolding APicture top
-pictures-told = many pictureUnits APicture PictureHead (λ o. ¬ Slice o) AfterGroup picture-told
+pictures-split = many pictureUnits APicture PictureHead (λ o. ¬ Slice o) AfterGroup picture-split
     (λ p x h. h .1 .kind) picture-no-slice (λ o a. a .0) (λ o a. a .1)
 
 first-top : (ps : List Picture) (x : List StreamUnit) → FirstIsI ps → PictureHead (top (concatMap pictureUnits ps ++ x))
@@ -176,13 +176,13 @@ unfolding top
 first-top [] x h = absurd h
 first-top (p ∷ ps) x h = inl h
 
-group-told : Told groupUnits (IsGroup) AfterGroup
-unfolding Told APicture
-group-told g k x y hg hk nx ny e =
+group-split : SplitsOnce groupUnits (IsGroup) AfterGroup
+unfolding SplitsOnce APicture
+group-split g k x y hg hk nx ny e =
     let r = run Extra (g .extras) (k .extras) (concatMap pictureUnits (g .pictures) ++ x) (concatMap pictureUnits (k .pictures) ++ y)
     (all-map head-extra (g .extras) (hg .extras)) (all-map head-extra (k .extras) (hk .extras))
     (picture-no-extra _ (first-top (g .pictures) x (hg .first))) (picture-no-extra _ (first-top (k .pictures) y (hk .first))) tails in
-    let s = pictures-told (g .pictures) (k .pictures) x y
+    let s = pictures-split (g .pictures) (k .pictures) x y
     (all-map (λ p h. (_, h)) (g .pictures) (hg .pictures)) (all-map (λ p h. (_, h)) (k .pictures) (hk .pictures)) nx ny (r .1) in
     ((λ i. record { head = heads i; extras = r .0 i; pictures = s .0 i }), s .1)
   where
@@ -192,9 +192,9 @@ group-told g k x y hg hk nx ny e =
     tails : g .extras ++ (concatMap pictureUnits (g .pictures) ++ x) ≡ k .extras ++ (concatMap pictureUnits (k .pictures) ++ y)
     tails = cc (append-assoc (g .extras) (concatMap pictureUnits (g .pictures)) x, append-assoc (k .extras) (concatMap pictureUnits (k .pictures)) y)
 
-groups-told : Told (concatMap groupUnits) (All (IsGroup)) AfterGroups
+groups-split : SplitsOnce (concatMap groupUnits) (All (IsGroup)) AfterGroups
 unfolding top
-groups-told = many groupUnits (IsGroup) (λ o. o ≡ done kind.SequenceHeader) AfterGroup AfterGroups group-told
+groups-split = many groupUnits (IsGroup) (λ o. o ≡ done kind.SequenceHeader) AfterGroup AfterGroups group-split
     (λ g x h. h .kind) (λ o e. after-group o kind.SequenceHeader e refl refl refl) (λ o e. e .0) (λ o e. e .1)
 
 ending-top : (e : List StreamUnit) → IsEnding e → AfterGroups (top e)
@@ -206,8 +206,8 @@ ending-top (e ∷ f ∷ []) h = (after-group _ kind.SequenceEnd (h .0 .0) refl r
 ending-top (e ∷ f ∷ g ∷ more) h = absurd h
 
 pub same-reading : (stream : List ℕ) (r q : Reading) → Reads stream r → Reads stream q → r ≡ q
-unfolding Told
+unfolding SplitsOnce
 same-reading stream r q hr hq =
-    let d = groups-told (r .groups) (q .groups) (r .ending) (q .ending) (hr .groups) (hq .groups) (ending-top _ (hr .ending)) (ending-top _ (hq .ending))
+    let d = groups-split (r .groups) (q .groups) (r .ending) (q .ending) (hr .groups) (hq .groups) (ending-top _ (hr .ending)) (ending-top _ (hq .ending))
     (same-units (units r) (units q) (hr .alone) (hq .alone) (hr .stream-is ∙ sym (hq .stream-is))) in
     λ i. record { groups = d .0 i; ending = d .1 i }

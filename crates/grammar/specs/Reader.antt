@@ -170,13 +170,13 @@ placeIn q u = placeOf q (kindOf (u .code))
 
 pub record Stopped : Type 0 where
   pub reason : Reason
-  pub place : ℕ
+  pub offset : ℕ
 
 abbrev pub Walk : Type 0
 Walk = Result Stopped (List Placed)
 
 abbrev pub stopAt : {A : Type 0} → Reason → ℕ → Result Stopped A
-stopAt why at = bad (record { reason = why; place = at })
+stopAt why at = bad (record { reason = why; offset = at })
 
 -- go on in the next state, or stop at the unit's offset
 abbrev pub continue : Step → ℕ → (State → Walk) → Walk
@@ -201,12 +201,12 @@ walkOfAny stream = cond (begins stream) (walkFrom (cut stream .chunks) state.Sta
 unfoldable pub walk : List ℕ → Walk
 walk stream = cond (ltb longestStream (length stream)) (stopAt reason.TooLong 0) (walkOfAny stream)
 
--- ── the answer: rows, or a refusal with its number and its place ──
+-- ── the answer: rows, or a refusal with its number and its offset ──
 
 -- what is seen of the units, in document 01's terms
 abbrev pub said : {A : Type 0} → (List Placed → A) → Walk → Outcome A
 said view (good ms) = done (view ms)
-said view (bad s) = refused (reasonNumber (s .reason)) (s .place ∷ [])
+said view (bad s) = refused (reasonNumber (s .reason)) (s .offset ∷ [])
 
 -- the rows of a stream, whatever is lent for them
 unfoldable pub filing : List ℕ → Outcome (List Row)

@@ -20,6 +20,6 @@ reasonNumber reason.Unended = UNENDED
 reasonNumber reason.Full = FULL
 reasonNumber reason.TooLong = TOO-LONG
 
--- what is refused for a reason at a place, by the number
-abbrev pub Numbered : (Reason → ℕ → Type 0) → ℕ → ℕ → Type 0
-Numbered Refused n at = (why : Reason) × Refused why at × (n ≡ reasonNumber why)
+-- what is refused for a reason at an offset, by the number
+abbrev pub ByNumber : (Reason → ℕ → Type 0) → ℕ → ℕ → Type 0
+ByNumber Refused n at = (why : Reason) × Refused why at × (n ≡ reasonNumber why)

@@ -1,4 +1,4 @@
--- Document 01, "Refusal numbers": when a stream is refused, for which reason and at which place, in the words of the grammar and
+-- Document 01, "Refusal numbers": when a stream is refused, for which reason and at which offset, in the words of the grammar and
 -- the layouts. The units before obey, this unit is the first that breaks a rule, and this rule is the first that it breaks.
 use Prim.Native.Nat.{ℕ, _*_, _≤_, _<_}
 use mathlib.Core.Path.{_≡_}
@@ -154,24 +154,24 @@ pub data Stops (us : List StreamUnit) (left : List ℕ) (why : Reason) : Type 0 
   overlap : (rest : List ℕ) → left ≡ 0 ∷ 0 ∷ 1 ∷ rest → HasCode rest → why ≡ reason.Overlap → Stops us left why
   breaks : (u : StreamUnit) (rest : List ℕ) → left ≡ bytes u ++ rest → Alone u → (rest ≡ []) ⊎ HasCode rest → Breaks us u why → Stops us left why
 
--- "unit by unit from the left": the units us obey, and after them the stream stops. The place is the number of their bytes:
--- the offset of the next unit's start code, or the stream's length.
+-- "unit by unit from the left": the units us obey, and after them the stream stops. The offset is the number of their bytes:
+-- that of the next unit's start code, or the stream's length.
 pub record StopsAt (stream : List ℕ) (why : Reason) (at : ℕ) : Type 0 where
   pub us : List StreamUnit
   pub left : List ℕ
   pub stream-is : concatMap bytes us ++ left ≡ stream
   pub obey : BeginsSentence us
   pub stops : Stops us left why
-  pub place : at ≡ length (concatMap bytes us)
+  pub offset : at ≡ length (concatMap bytes us)
 
--- "Order: TOO LONG, NO CODE, then unit by unit from the left"; the place is 0 for the first two
+-- "Order: TOO LONG, NO CODE, then unit by unit from the left"; the offset is 0 for the first two
 pub data Refuses (stream : List ℕ) (why : Reason) (at : ℕ) : Type 0 where
   too-long : longestStream < length stream → why ≡ reason.TooLong → at ≡ 0 → Refuses stream why at
   no-code : length stream ≤ longestStream → ¬ HasCode stream → why ≡ reason.NoCode → at ≡ 0 → Refuses stream why at
   in-unit : length stream ≤ longestStream → HasCode stream → StopsAt stream why at → Refuses stream why at
 
 -- the same with so many words lent: "FULL comes last: only for a stream that is otherwise good", where they are fewer than three a
--- unit; its place is 0
+-- unit; its offset is 0
 pub data RefusesInto (stream : List ℕ) (lent : ℕ) (why : Reason) (at : ℕ) : Type 0 where
   refuses : Refuses stream why at → RefusesInto stream lent why at
   full : length stream ≤ longestStream → (r : Reading) → Reads stream r → lent < 3 * length (units r) → why ≡ reason.Full → at ≡ 0 → RefusesInto stream lent why at

@@ -30,14 +30,14 @@ pub record Placed : Type 0 where
 abbrev pub placed : Place → StreamUnit → Placed
 placed p u = record { place = p; unit = u }
 
-abbrev pub pictureRow : Picture → List Placed
-pictureRow p = map (placed place.Picture) (pictureUnits p)
+abbrev pub placedPicture : Picture → List Placed
+placedPicture p = map (placed place.Picture) (pictureUnits p)
 
-abbrev pub groupRow : Group → List Placed
-groupRow g = placed place.Picture (g .head) ∷ map (placed place.Head) (g .extras) ++ concatMap pictureRow (g .pictures)
+abbrev pub placedGroup : Group → List Placed
+placedGroup g = placed place.Picture (g .head) ∷ map (placed place.Head) (g .extras) ++ concatMap placedPicture (g .pictures)
 
 abbrev pub placedUnits : Reading → List Placed
-placedUnits r = concatMap groupRow (r .groups) ++ map (placed place.Picture) (r .ending)
+placedUnits r = concatMap placedGroup (r .groups) ++ map (placed place.Picture) (r .ending)
 
 -- ── lengths ──
 

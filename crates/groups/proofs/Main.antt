@@ -7,7 +7,7 @@ use lib.ListN.{length}
 use Rattle.answers.specs.Answers.{refused, OneToOne}
 use Rattle.answers.specs.Limits.{longestStream}
 use Rattle.grammar.specs.Grammar.{Reading, Reads}
-use Rattle.grammar.specs.Reasons.{Numbered}
+use Rattle.grammar.specs.Reasons.{ByNumber}
 use Rattle.grammar.specs.Refusals.{Refuses}
 use Rattle.groups.specs.Groups.{groupSays, GroupOfReading, GroupByReading}
 use Rattle.groups.specs.Reader.{groupAt}
@@ -21,8 +21,8 @@ group-is s r h k g = proof.group-is s g r h k
 pub group-exactly : (s : List ℕ) (g : ℕ) → GroupByReading s g (groupAt s g)
 group-exactly = proof.group-exactly
 
--- A refusal with a place is the stream's, rows aside.
-pub group-refused : (s : List ℕ) (g n place : ℕ) → (groupAt s g ≡ refused n (place ∷ [])) ↔ Numbered (Refuses s) n place
+-- A refusal with an offset is the stream's, rows aside.
+pub group-refused : (s : List ℕ) (g n offset : ℕ) → (groupAt s g ≡ refused n (offset ∷ [])) ↔ ByNumber (Refuses s) n offset
 group-refused = proof.group-refused
 
 -- No two answers say the same.

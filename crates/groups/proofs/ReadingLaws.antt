@@ -29,7 +29,7 @@ use Rattle.grammar.specs.declared.SliceRule.{SliceRule}
 use Rattle.grammar.proofs.KindLaws.{apart}
 use Rattle.grammar.proofs.BodyLaws.{header-good}
 use Rattle.grammar.proofs.Division.{number-two, number-not-two}
-use Rattle.groups.specs.Groups.{GroupRecord, DisplayIs, GroupIs, Numbered}
+use Rattle.groups.specs.Groups.{GroupRecord, DisplayIs, GroupIs, NthGroup}
 use Rattle.groups.specs.Reader.{shown, inHead, displayIn, groupOf, beginsGroup, groupIn}
 use Rattle.groups.specs.declared.Display.{Display}
 use Rattle.groups.specs.declared.Display.the-variants.{Given, NotGiven}
@@ -197,26 +197,26 @@ module _ (group : Group) (h : IsGroup group) (rest : List StreamUnit) where
 
 -- ── all groups ──
 
-later : (g : ℕ) (first : Group) (gs : List Group) (group : Group) → Numbered g gs group → Numbered (suc g) (first ∷ gs) group
+later : (g : ℕ) (first : Group) (gs : List Group) (group : Group) → NthGroup g gs group → NthGroup (suc g) (first ∷ gs) group
 later g first gs group n = record { before = first ∷ n .before; after = n .after; is = ap (λ (l : List Group). first ∷ l) (n .is); count = ap suc (n .count) }
 
 -- group 0 is the first, and the others are those after it
-numbered-first : (first : Group) (gs : List Group) (group : Group) → Numbered zero (first ∷ gs) group → first ≡ group
-numbered-first first gs group n = by-before (n .before) (n .is) (n .count)
+nth-first : (first : Group) (gs : List Group) (group : Group) → NthGroup zero (first ∷ gs) group → first ≡ group
+nth-first first gs group n = by-before (n .before) (n .is) (n .count)
   where
     by-before : (b : List Group) → first ∷ gs ≡ b ++ group ∷ n .after → length b ≡ 0 → first ≡ group
     by-before [] i c = cc
     by-before (x ∷ b) i c = absurd (omega arith)
 
-numbered-later : (g : ℕ) (first : Group) (gs : List Group) (group : Group) → Numbered (suc g) (first ∷ gs) group → Numbered g gs group
-numbered-later g first gs group n = by-before (n .before) (n .is) (n .count)
+nth-later : (g : ℕ) (first : Group) (gs : List Group) (group : Group) → NthGroup (suc g) (first ∷ gs) group → NthGroup g gs group
+nth-later g first gs group n = by-before (n .before) (n .is) (n .count)
   where
-    by-before : (b : List Group) → first ∷ gs ≡ b ++ group ∷ n .after → length b ≡ suc g → Numbered g gs group
+    by-before : (b : List Group) → first ∷ gs ≡ b ++ group ∷ n .after → length b ≡ suc g → NthGroup g gs group
     by-before [] i c = absurd (omega arith)
     by-before (x ∷ b) i c = record { before = b; after = n .after; is = cc; count = omega arith }
 
-numbered-none : {P : Type 0} (g : ℕ) (group : Group) → Numbered g [] group → P
-numbered-none g group n = by-before (n .before) (n .is)
+nth-none : {P : Type 0} (g : ℕ) (group : Group) → NthGroup g [] group → P
+nth-none g group n = by-before (n .before) (n .is)
   where
     by-before : {P : Type 0} (b : List Group) → [] ≡ b ++ group ∷ n .after → P
     by-before [] i = let z : _≡_ {A = ℕ} 0 1 = cc (ap length i) in absurd (omega arith)
@@ -229,7 +229,7 @@ module _ (e : List StreamUnit) (ending : IsEnding e) where
   more : (g : ℕ) (a : Group) (gs : List Group) → groupIn g (all (a ∷ gs)) ≡ groupIn g (groupUnits a ++ all gs)
   more g a gs = ap (groupIn g) (append-assoc (groupUnits a) (concatMap groupUnits gs) e)
 
-  pub number-given : (g : ℕ) (gs : List Group) → All IsGroup gs → (x : GroupRecord) → groupIn g (all gs) ≡ done x → (group : Group) × Numbered g gs group × GroupIs group x
+  pub number-given : (g : ℕ) (gs : List Group) → All IsGroup gs → (x : GroupRecord) → groupIn g (all gs) ≡ done x → (group : Group) × NthGroup g gs group × GroupIs group x
   number-given g [] h x f = not-done (sym (no-group g e (ending-no e ending)) ∙ f)
   number-given zero (a ∷ gs) h x f =
       let y = some-record a (h .0) in
@@ -239,10 +239,10 @@ module _ (e : List StreamUnit) (ending : IsEnding e) where
       let r = number-given g gs (h .1) x (sym (more (suc g) a gs ∙ group-skip a (h .0) (all gs) g) ∙ f) in
       (r .0, later g a gs (r .0) (r .1), r .2)
 
-  pub given-number : (g : ℕ) (gs : List Group) → All IsGroup gs → (x : GroupRecord) (group : Group) → Numbered g gs group → GroupIs group x → groupIn g (all gs) ≡ done x
-  given-number g [] h x group n k = numbered-none g group n
-  given-number zero (a ∷ gs) h x group n k = more zero a gs ∙ group-here a (h .0) (all gs) x (subst (λ (b : Group). GroupIs b x) (sym (numbered-first a gs group n)) k)
-  given-number (suc g) (a ∷ gs) h x group n k = more (suc g) a gs ∙ group-skip a (h .0) (all gs) g ∙ given-number g gs (h .1) x group (numbered-later g a gs group n) k
+  pub given-number : (g : ℕ) (gs : List Group) → All IsGroup gs → (x : GroupRecord) (group : Group) → NthGroup g gs group → GroupIs group x → groupIn g (all gs) ≡ done x
+  given-number g [] h x group n k = nth-none g group n
+  given-number zero (a ∷ gs) h x group n k = more zero a gs ∙ group-here a (h .0) (all gs) x (subst (λ (b : Group). GroupIs b x) (sym (nth-first a gs group n)) k)
+  given-number (suc g) (a ∷ gs) h x group n k = more (suc g) a gs ∙ group-skip a (h .0) (all gs) g ∙ given-number g gs (h .1) x group (nth-later g a gs group n) k
 
   pub no-number : (g : ℕ) (gs : List Group) → All IsGroup gs → (groupIn g (all gs) ≡ refused NO-ROW []) ↔ (length gs ≤ g)
   no-number g [] h = ((λ f. omega arith), λ l. no-group g e (ending-no e ending))

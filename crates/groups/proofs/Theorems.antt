@@ -55,33 +55,33 @@ module _ (s : List ℕ) (g : ℕ) where
 
 -- ── refusals ──
 
-no-place : {P A : Type 0} {m p n : ℕ} {ps : List ℕ} → _≡_ {A = Outcome A} (refused m (p ∷ ps)) (refused n []) → P
-no-place {p = p} {ps = ps} e = let z : _≡_ {A = List ℕ} (p ∷ ps) [] = cc in let y : _≡_ {A = ℕ} 0 1 = cc in absurd (omega arith)
+not-offset : {P A : Type 0} {m p n : ℕ} {ps : List ℕ} → _≡_ {A = Outcome A} (refused m (p ∷ ps)) (refused n []) → P
+not-offset {p = p} {ps = ps} e = let z : _≡_ {A = List ℕ} (p ∷ ps) [] = cc in let y : _≡_ {A = ℕ} 0 1 = cc in absurd (omega arith)
 
-group-place : {P : Type 0} (o : Outcome SequenceHeader) (d : Display) (n place : ℕ) → groupOf o d ≡ refused n (place ∷ []) → P
-group-place (done header) d n place e = not-refused e
-group-place (refused m carried) d n place e = no-place (sym e)
+group-no-offset : {P : Type 0} (o : Outcome SequenceHeader) (d : Display) (n offset : ℕ) → groupOf o d ≡ refused n (offset ∷ []) → P
+group-no-offset (done header) d n offset e = not-refused e
+group-no-offset (refused m carried) d n offset e = not-offset (sym e)
 
--- of its units a group has no place
-in-place : {P : Type 0} (g : ℕ) (us : List StreamUnit) (n place : ℕ) → groupIn g us ≡ refused n (place ∷ []) → P
+-- what is answered of the units of a stream has no offset
+units-no-offset : {P : Type 0} (g : ℕ) (us : List StreamUnit) (n offset : ℕ) → groupIn g us ≡ refused n (offset ∷ []) → P
 unfolding groupIn
-in-place g [] n place e = no-place (sym e)
-in-place zero (u ∷ us) n place e = by-test (beginsGroup u) (λ t. group-place (headerOf (u .body)) (displayIn us) n place (rw t at e)) (λ f. in-place zero us n place (rw f at e))
-in-place (suc g) (u ∷ us) n place e = by-test (beginsGroup u) (λ t. in-place g us n place (rw t at e)) (λ f. in-place (suc g) us n place (rw f at e))
+units-no-offset g [] n offset e = not-offset (sym e)
+units-no-offset zero (u ∷ us) n offset e = by-test (beginsGroup u) (λ t. group-no-offset (headerOf (u .body)) (displayIn us) n offset (rw t at e)) (λ f. units-no-offset zero us n offset (rw f at e))
+units-no-offset (suc g) (u ∷ us) n offset e = by-test (beginsGroup u) (λ t. units-no-offset g us n offset (rw t at e)) (λ f. units-no-offset (suc g) us n offset (rw f at e))
 
 module _ (g : ℕ) where
-  from-units : (o : Outcome (List StreamUnit)) (n place : ℕ) → (andThen o (groupIn g) ≡ refused n (place ∷ [])) ↔ (o ≡ refused n (place ∷ []))
-  from-units (done us) n place = ((λ e. in-place g us n place e), λ e. not-refused e)
-  from-units (refused m carried) n place = (
-    (λ e. let p : m ≡ n = cc in let q : carried ≡ place ∷ [] = cc in rw (p, q)),
-    λ e. let p : m ≡ n = cc in let q : carried ≡ place ∷ [] = cc in rw (p, q),
+  from-units : (o : Outcome (List StreamUnit)) (n offset : ℕ) → (andThen o (groupIn g) ≡ refused n (offset ∷ [])) ↔ (o ≡ refused n (offset ∷ []))
+  from-units (done us) n offset = ((λ e. units-no-offset g us n offset e), λ e. not-refused e)
+  from-units (refused m carried) n offset = (
+    (λ e. let p : m ≡ n = cc in let q : carried ≡ offset ∷ [] = cc in rw (p, q)),
+    λ e. let p : m ≡ n = cc in let q : carried ≡ offset ∷ [] = cc in rw (p, q),
   )
 
-pub group-refused : (s : List ℕ) (g n place : ℕ) → (groupAt s g ≡ refused n (place ∷ [])) ↔ reasons.Numbered (Refuses s) n place
+pub group-refused : (s : List ℕ) (g n offset : ℕ) → (groupAt s g ≡ refused n (offset ∷ [])) ↔ reasons.ByNumber (Refuses s) n offset
 unfolding groupAt
-group-refused s g n place =
-    let f = from-units g (said (map unitOf) (walk s)) n place in
-    let k = said-iff (map unitOf) (walk s) (Refuses s) (stopped-iff s) n place in
+group-refused s g n offset =
+    let f = from-units g (said (map unitOf) (walk s)) n offset in
+    let k = said-iff (map unitOf) (walk s) (Refuses s) (stopped-iff s) n offset in
     ((λ e. k .0 (f .0 e)), λ h. f .1 (k .1 h))
 
 -- ── any stream ──
@@ -105,7 +105,7 @@ module _ (s : List ℕ) (g : ℕ) where
 
   row-read : groupAt s g ≡ refused NO-ROW [] → (w : Walk) → walk s ≡ w → Read
   row-read e (good ms) f = good-read ms f
-  row-read e (bad y) f = no-place (sym (by-walk (bad y) f) ∙ e)
+  row-read e (bad y) f = not-offset (sym (by-walk (bad y) f) ∙ e)
 
   pub group-exactly : GroupByReading s g (groupAt s g)
   unfolding Read
@@ -118,7 +118,7 @@ module _ (s : List ℕ) (g : ℕ) where
       (λ e. let k = row-read e (walk s) refl in (k .0, (k .1 .0, k .1 .1, group-is s g (k .1 .0) (k .0) (k .1 .1) .no-row .0 e))),
       λ h. group-is s g (h .1 .0) (h .0) (h .1 .1) .no-row .1 (h .1 .2),
     );
-    refusal = λ n place. group-refused s g n place;
+    refusal = λ n offset. group-refused s g n offset;
   }
 
 -- ── what the code walks over ──
@@ -151,7 +151,7 @@ at-refused s g n carried e = by-outcome (walk s) e
   where
     by-outcome : (w : Walk) → refused n carried ≡ said length w → refused n carried ≡ andThen (said (map unitOf) w) (groupIn g)
     by-outcome (good ms) e = not-done e
-    by-outcome (bad x) e = let p : n ≡ reasons.reasonNumber (x .reason) = cc in let q : carried ≡ x .place ∷ [] = cc in rw (p, q)
+    by-outcome (bad x) e = let p : n ≡ reasons.reasonNumber (x .reason) = cc in let q : carried ≡ x .offset ∷ [] = cc in rw (p, q)
 
 -- ── answers and their numbers ──
 
@@ -161,7 +161,7 @@ group-one-to-one = undone groupSays back is
     back : Outcome GroupRecord → GroupAnswer
     back (done x) = answer.Group (x .header) (x .display)
     back (refused n []) = answer.NoRow
-    back (refused n (place ∷ more)) = answer.Refused (refusalOf n (place ∷ more))
+    back (refused n (offset ∷ more)) = answer.Refused (refusalOf n (offset ∷ more))
 
     is : (a : GroupAnswer) → back (groupSays a) ≡ a
     is (answer.Group h d) = refl

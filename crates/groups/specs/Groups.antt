@@ -29,7 +29,7 @@ pub record GroupRecord : Type 0 where
 abbrev pub groupSays : GroupAnswer → Outcome GroupRecord
 groupSays (answer.Group header d) = done (record { header = header; display = d })
 groupSays answer.NoRow = refused NO-ROW []
-groupSays (answer.Refused r) = refused (reasonNumber (r .reason)) (r .place ∷ [])
+groupSays (answer.Refused r) = refused (reasonNumber (r .reason)) (r .offset ∷ [])
 
 -- ── group g of a reading ──
 
@@ -53,7 +53,7 @@ pub record GroupIs (group : Group) (x : GroupRecord) : Type 0 where
   pub display : DisplayIs (group .extras) (x .display)
 
 -- group g, counted from 0
-pub record Numbered (g : ℕ) (groups : List Group) (group : Group) : Type 0 where
+pub record NthGroup (g : ℕ) (groups : List Group) (group : Group) : Type 0 where
   pub before : List Group
   pub after : List Group
   pub is : groups ≡ before ++ group ∷ after
@@ -62,7 +62,7 @@ pub record Numbered (g : ℕ) (groups : List Group) (group : Group) : Type 0 whe
 -- what is answered for group g of a stream with this reading
 pub record GroupOfReading (r : Reading) (g : ℕ) (o : Outcome GroupRecord) : Type 0 where
   -- a record exactly where the reading has group g and the record is its own
-  pub given : (x : GroupRecord) → (o ≡ done x) ↔ ((group : Group) × Numbered g (r .groups) group × GroupIs group x)
+  pub given : (x : GroupRecord) → (o ≡ done x) ↔ ((group : Group) × NthGroup g (r .groups) group × GroupIs group x)
   -- NO ROW exactly where g is at least the number of groups
   pub no-row : (o ≡ refused NO-ROW []) ↔ (length (r .groups) ≤ g)
 
@@ -70,8 +70,8 @@ pub record GroupOfReading (r : Reading) (g : ℕ) (o : Outcome GroupRecord) : Ty
 pub record GroupByReading (stream : List ℕ) (g : ℕ) (o : Outcome GroupRecord) : Type 0 where
   -- a record exactly where the stream is within the limit and has a reading whose group g has it
   pub given : (x : GroupRecord) →
-      (o ≡ done x) ↔ ((length stream ≤ longestStream) × ((r : Reading) × Reads stream r × ((group : Group) × Numbered g (r .groups) group × GroupIs group x)))
+      (o ≡ done x) ↔ ((length stream ≤ longestStream) × ((r : Reading) × Reads stream r × ((group : Group) × NthGroup g (r .groups) group × GroupIs group x)))
   -- NO ROW exactly where it is within the limit and has a reading with no group g
   pub no-row : (o ≡ refused NO-ROW []) ↔ ((length stream ≤ longestStream) × ((r : Reading) × Reads stream r × (length (r .groups) ≤ g)))
-  -- any other refusal exactly where the stream is refused, rows aside, with its number and its place
-  pub refusal : (n place : ℕ) → (o ≡ refused n (place ∷ [])) ↔ reasons.Numbered (Refuses stream) n place
+  -- any other refusal exactly where the stream is refused, rows aside, with its number and its offset
+  pub refusal : (n offset : ℕ) → (o ≡ refused n (offset ∷ [])) ↔ reasons.ByNumber (Refuses stream) n offset

@@ -5,13 +5,13 @@ use lib.Dec.{leb}
 use Rattle.layout.specs.declared.SequenceHeader.{SequenceHeader}
 
 -- Macroblock columns = (horizontal size + 15) / 16, whole division.
-unfoldable pub macroblockColumns : SequenceHeader → ℕ
+abbrev pub macroblockColumns : SequenceHeader → ℕ
 macroblockColumns h = (h .horizontal + 15) / 16
 
 -- Macroblock rows = (vertical size + 15) / 16, whole division.
-unfoldable pub macroblockRows : SequenceHeader → ℕ
+abbrev pub macroblockRows : SequenceHeader → ℕ
 macroblockRows h = (h .vertical + 15) / 16
 
 -- Where vertical size is over 2800, neither the order nor the rows of slices are tested.
-unfoldable pub slicesTested : SequenceHeader → Bool
+abbrev pub slicesTested : SequenceHeader → Bool
 slicesTested h = leb (h .vertical) 2800

@@ -8,7 +8,7 @@ use lib.Dec.{eqb, ltb}
 use lib.ListN.{length, drop, length-drop}
 use lib.Pow.{pow-mono, pow-pos}
 use borrow.Author.Tests.{eq-eqb, ne-eqb, eqb-true, eqb-false, lt-ltb, le-ltb}
-use Rattle.answers.specs.Answers.{Outcome, done, refused, TOO-LONG, PAYLOAD-OUT}
+use Rattle.answers.specs.Answers.{Outcome, done, refused, refuseIf, TOO-LONG, PAYLOAD-OUT}
 use Rattle.answers.specs.Limits.{longestPayload}
 use Rattle.bits.specs.Bits.{payload, readAt}
 use Rattle.bits.specs.declared.Read.the-variants as read
@@ -83,7 +83,8 @@ number-of e = ap valueOf e
 
 pub golomb-long : (bytes : List ℕ) (count place : ℕ) → longestPayload < length bytes → refused TOO-LONG [] ≡ golomb bytes count place
 unfolding golomb
-golomb-long bytes count place h = simp (lt-ltb longestPayload (length bytes) h)
+golomb-long bytes count place h =
+    ap (λ t. refuseIf t TOO-LONG (golombAfter (payload bytes count) (zerosOn 0 place (drop place (payload bytes count))))) (sym (lt-ltb longestPayload (length bytes) h))
 
 module _ (bytes : List ℕ) (count place : ℕ) where
   pub golomb-after : (zs : Zeros) → length bytes ≤ longestPayload → zs ≡ zerosOn 0 place (drop place (payload bytes count)) →

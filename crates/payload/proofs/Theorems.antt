@@ -66,30 +66,31 @@ removed-undone removed.TooLong = refl
 pub removed-one-to-one : OneToOne removedSays
 removed-one-to-one = undone removedSays removedOf removed-undone
 
-golombOf : Outcome (Numbered ℕ) → Golomb
-golombOf (done m) = unsigned.Number (m .number) (m .next)
-golombOf (refused number carried) = cond (eqb number VALUE) unsigned.Value (cond (eqb number TOO-LONG) unsigned.TooLong unsigned.PayloadOut)
-
-golomb-undone : (a : Golomb) → golombOf (golombSays a) ≡ a
-unfolding golombOf
-golomb-undone (unsigned.Number n next) = refl
-golomb-undone unsigned.Value = refl
-golomb-undone unsigned.TooLong = refl
-golomb-undone unsigned.PayloadOut = refl
+-- the answer of an Exp-Golomb number, by what it says
+abbrev answerOf : {A B : Type 0} → (A → ℕ → B) → B → B → B → Outcome (Numbered A) → B
+answerOf number value long out (done m) = number (m .number) (m .next)
+answerOf number value long out (refused n carried) = cond (eqb n VALUE) value (cond (eqb n TOO-LONG) long out)
 
 pub golomb-one-to-one : OneToOne golombSays
-golomb-one-to-one = undone golombSays golombOf golomb-undone
+golomb-one-to-one = undone golombSays back is
+  where
+    back : Outcome (Numbered ℕ) → Golomb
+    back = answerOf unsigned.Number unsigned.Value unsigned.TooLong unsigned.PayloadOut
 
-signedOf : Outcome (Numbered ℤ) → SignedGolomb
-signedOf (done m) = signed.Number (m .number) (m .next)
-signedOf (refused number carried) = cond (eqb number VALUE) signed.Value (cond (eqb number TOO-LONG) signed.TooLong signed.PayloadOut)
-
-signed-undone : (a : SignedGolomb) → signedOf (signedSays a) ≡ a
-unfolding signedOf
-signed-undone (signed.Number n next) = refl
-signed-undone signed.Value = refl
-signed-undone signed.TooLong = refl
-signed-undone signed.PayloadOut = refl
+    is : (a : Golomb) → back (golombSays a) ≡ a
+    is (unsigned.Number n next) = refl
+    is unsigned.Value = refl
+    is unsigned.TooLong = refl
+    is unsigned.PayloadOut = refl
 
 pub signed-one-to-one : OneToOne signedSays
-signed-one-to-one = undone signedSays signedOf signed-undone
+signed-one-to-one = undone signedSays back is
+  where
+    back : Outcome (Numbered ℤ) → SignedGolomb
+    back = answerOf signed.Number signed.Value signed.TooLong signed.PayloadOut
+
+    is : (a : SignedGolomb) → back (signedSays a) ≡ a
+    is (signed.Number n next) = refl
+    is signed.Value = refl
+    is signed.TooLong = refl
+    is signed.PayloadOut = refl

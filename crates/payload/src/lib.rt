@@ -33,18 +33,12 @@ struct Packer {
     k: u32,
 }
 
-fn wide(x: u8) -> u32
-    ensures { λ r. ⌜ r ≡ x ⌝ }
-{
-    x as u32
-}
-
 // The bit at place j of a byte.
 fn bit_of(byte: u8, j: u32) -> u32
     requires { ⌜ j < 8 ⌝ }
     ensures { λ r. ⌜ (r ≡ getD (bitsIn 8 byte) j 0) × (r < 2) ⌝ }
 {
-    wide(byte) >> (7 - j) & 1
+    bits::wide(byte) >> (7 - j) & 1
 }
 
 // The first width bits of a byte are pushed, two a turn: counts stay even, so a byte gets full only at a turn's end.

@@ -3,9 +3,6 @@ use grammar::Reason;
 use grammar::SliceRule;
 use grammar::State;
 use grammar::Step;
-use layout::ExtensionReading;
-use layout::Fault;
-use layout::HeaderReading;
 use layout::Place;
 use startcode::Kind;
 use startcode::UnitKind;
@@ -14,9 +11,8 @@ ghost use mathlib.Core.Bool.{cond};
 ghost use Prim.Native.Nat.{_<_};
 ghost use lib.ListN.{length};
 ghost use Rattle.answers.specs.Answers.{done};
-ghost use Rattle.layout.specs.Reader.{extensionResult, allZero};
 ghost use Rattle.grammar.specs.Rows.{trimmed, wholeBody};
-ghost use Rattle.grammar.specs.Reader.{choose, table, by, headerStep, headExtension, pictureStep, sliceStep, endingStep};
+ghost use Rattle.grammar.specs.Reader.{choose, table};
 ghost use Rattle.units.specs.Reader.{unitFrom, unitAt};
 ghost use Rattle.units.specs.Inside.{extensionPlace};
 
@@ -27,131 +23,25 @@ pub enum UnitAnswer {
     NoUnit,
 }
 
-// ── bodies ──
-
-fn all_zero(body: &[u8]) -> bool
-    ensures { λ r. ⌜ r ≡ allZero (now (body .entry)) ⌝ }
-{
-    let mut i: usize = 0;
-    while i < body.len() {
-        if body[i] != 0 {
-            return false;
-        }
-        i += 1;
-    }
-    true
-}
-
-// The length without trailing zero bytes.
-fn trimmed_length(body: &[u8]) -> usize
-    ensures { λ r. ⌜ r ≡ length (trimmed (now (body .entry))) ⌝ }
-{
-    let mut n = body.len();
-    while 0 < n {
-        if body[n - 1] != 0 {
-            return n;
-        }
-        n -= 1;
-    }
-    0
-}
-
-// ── one unit, by its kind ──
-
-fn header_step(body: &[u8]) -> Step
-    ensures { λ r. ⌜ r ≡ headerStep (now (body .entry)) ⌝ }
-{
-    match layout::read_header(body) {
-        HeaderReading::Header(h) => {
-            let rule = SliceRule {
-                tested: macroblocks::slices_tested(h),
-                rows: macroblocks::macroblock_rows(h),
-            };
-            Step::Go(State::Head(rule, false))
-        }
-        HeaderReading::Faulty(fault) => Step::Stop(Reason::Body(fault)),
-    }
-}
-
-// An extension whose body is read goes on in the state next.
-fn extension_step(body: &[u8], place: Place, next: State) -> Step
-    ensures { λ r. ⌜ r ≡ by (extensionResult place (now (body .entry))) (λ x. next) ⌝ }
-{
-    match layout::read_extension(body, place) {
-        ExtensionReading::Display(_) => Step::Go(next),
-        ExtensionReading::Copyright(_) => Step::Go(next),
-        ExtensionReading::Opaque(_) => Step::Go(next),
-        ExtensionReading::Faulty(fault) => Step::Stop(Reason::Body(fault)),
-    }
-}
-
-// SHORT, then TWICE, then the fields of a display extension.
-fn head_extension(rule: SliceRule, display: bool, body: &[u8]) -> Step
-    ensures { λ r. ⌜ r ≡ headExtension rule display (now (body .entry)) ⌝ }
-{
-    if !layout::is_display(body) {
-        return extension_step(body, Place::Head, State::Head(rule, display));
-    }
-    if layout::display_short(body) {
-        return Step::Stop(Reason::Body(Fault::Short));
-    }
-    if display {
-        return Step::Stop(Reason::Twice);
-    }
-    extension_step(body, Place::Head, State::Head(rule, true))
-}
-
-fn picture_step(rule: SliceRule, body: &[u8]) -> Step
-    ensures { λ r. ⌜ r ≡ pictureStep rule (now (body .entry)) ⌝ }
-{
-    if all_zero(body) {
-        return Step::Stop(Reason::Body(Fault::Short));
-    }
-    Step::Go(State::Picture(rule))
-}
-
-fn wide(x: u8) -> u32
-    ensures { λ r. ⌜ (r ≡ x) × (r < 256) ⌝ }
-{
-    x as u32
-}
-
-// The order of slices is tested before the rows.
-fn slice_step(rule: SliceRule, least: u32, code: u8, body: &[u8]) -> Step
-    ensures { λ r. ⌜ r ≡ sliceStep rule least (record { code = code; body = now (body .entry) }) ⌝ }
-{
-    if all_zero(body) {
-        return Step::Stop(Reason::Body(Fault::Short));
-    }
-    let number = wide(code);
-    if !rule.tested {
-        return Step::Go(State::Slices(rule, number + 1));
-    }
-    if number < least {
-        return Step::Stop(Reason::SliceOrder);
-    }
-    if rule.rows <= number {
-        return Step::Stop(Reason::SliceRow);
-    }
-    Step::Go(State::Slices(rule, number + 1))
-}
-
-fn ending_step(body: &[u8], next: State) -> Step
-    ensures { λ r. ⌜ r ≡ endingStep (now (body .entry)) next ⌝ }
-{
-    if body.len() != 0 {
-        return Step::Stop(Reason::Body(Fault::Stuffing));
-    }
-    Step::Go(next)
-}
-
 // ── one unit, by the state that it is read in ──
 
-fn at_start(kind: Kind, code: u8, body: &[u8]) -> Step
-    ensures { λ r. ⌜ r ≡ choose kind (table State.Start (record { code = code; body = now (body .entry) })) ⌝ }
+// Outside groups: at the start only B0 may stand, and after B1 only B7.
+fn outside_groups(ended: bool, kind: Kind, code: u8, body: &[u8]) -> Step
+    ensures { λ r. ⌜ r ≡ choose kind (table (cond ended State.Ended State.Start) (record { code = code; body = now (body .entry) })) ⌝ }
 {
     match kind {
-        Kind::SequenceHeader => header_step(body),
+        Kind::SequenceHeader => {
+            if ended {
+                return Step::Stop(Reason::OutOfPlace);
+            }
+            steps::header_step(body)
+        }
+        Kind::EditCode => {
+            if ended {
+                return steps::ending_step(body, State::Closed);
+            }
+            Step::Stop(Reason::OutOfPlace)
+        }
         _ => Step::Stop(Reason::OutOfPlace),
     }
 }
@@ -161,8 +51,8 @@ fn in_head(rule: SliceRule, display: bool, kind: Kind, code: u8, body: &[u8]) ->
 {
     match kind {
         Kind::UserData => Step::Go(State::Head(rule, display)),
-        Kind::Extension => head_extension(rule, display, body),
-        Kind::IPicture => picture_step(rule, body),
+        Kind::Extension => steps::head_extension(rule, display, body),
+        Kind::IPicture => steps::picture_step(rule, body),
         _ => Step::Stop(Reason::OutOfPlace),
     }
 }
@@ -171,9 +61,9 @@ fn in_picture(rule: SliceRule, kind: Kind, code: u8, body: &[u8]) -> Step
     ensures { λ r. ⌜ r ≡ choose kind (table (State.Picture rule) (record { code = code; body = now (body .entry) })) ⌝ }
 {
     match kind {
-        Kind::Slice => slice_step(rule, 0, code, body),
+        Kind::Slice => steps::slice_step(rule, 0, code, body),
         Kind::UserData => Step::Go(State::Picture(rule)),
-        Kind::Extension => extension_step(body, Place::Picture, State::Picture(rule)),
+        Kind::Extension => steps::extension_step(body, Place::Picture, State::Picture(rule)),
         _ => Step::Stop(Reason::OutOfPlace),
     }
 }
@@ -182,21 +72,12 @@ fn after_slice(rule: SliceRule, least: u32, kind: Kind, code: u8, body: &[u8]) -
     ensures { λ r. ⌜ r ≡ choose kind (table (State.Slices rule least) (record { code = code; body = now (body .entry) })) ⌝ }
 {
     match kind {
-        Kind::Slice => slice_step(rule, least, code, body),
-        Kind::IPicture => picture_step(rule, body),
-        Kind::PBPicture => picture_step(rule, body),
-        Kind::SequenceHeader => header_step(body),
-        Kind::SequenceEnd => ending_step(body, State::Ended),
-        Kind::EditCode => ending_step(body, State::Closed),
-        _ => Step::Stop(Reason::OutOfPlace),
-    }
-}
-
-fn after_end(kind: Kind, code: u8, body: &[u8]) -> Step
-    ensures { λ r. ⌜ r ≡ choose kind (table State.Ended (record { code = code; body = now (body .entry) })) ⌝ }
-{
-    match kind {
-        Kind::EditCode => ending_step(body, State::Closed),
+        Kind::Slice => steps::slice_step(rule, least, code, body),
+        Kind::IPicture => steps::picture_step(rule, body),
+        Kind::PBPicture => steps::picture_step(rule, body),
+        Kind::SequenceHeader => steps::header_step(body),
+        Kind::SequenceEnd => steps::ending_step(body, State::Ended),
+        Kind::EditCode => steps::ending_step(body, State::Closed),
         _ => Step::Stop(Reason::OutOfPlace),
     }
 }
@@ -205,11 +86,11 @@ fn in_state(state: State, kind: Kind, code: u8, body: &[u8]) -> Step
     ensures { λ r. ⌜ r ≡ choose kind (table state (record { code = code; body = now (body .entry) })) ⌝ }
 {
     match state {
-        State::Start => at_start(kind, code, body),
+        State::Start => outside_groups(false, kind, code, body),
         State::Head(rule, display) => in_head(rule, display, kind, code, body),
         State::Picture(rule) => in_picture(rule, kind, code, body),
         State::Slices(rule, least) => after_slice(rule, least, kind, code, body),
-        State::Ended => after_end(kind, code, body),
+        State::Ended => outside_groups(true, kind, code, body),
         State::Closed => Step::Stop(Reason::OutOfPlace),
     }
 }
@@ -239,6 +120,20 @@ fn is_whole(place: Place, kind: Kind, body: &[u8]) -> bool
         Kind::Extension => layout::is_opaque(body, place),
         _ => false,
     }
+}
+
+// The length without trailing zero bytes.
+fn trimmed_length(body: &[u8]) -> usize
+    ensures { λ r. ⌜ r ≡ length (trimmed (now (body .entry))) ⌝ }
+{
+    let mut n = body.len();
+    while 0 < n {
+        if body[n - 1] != 0 {
+            return n;
+        }
+        n -= 1;
+    }
+    0
 }
 
 // The body without its trailing zero bytes, or the whole body.

@@ -41,7 +41,7 @@ returns-3 c =
     let e = c .before .before in
     let a = e .before .before .before .args in
     let shift = 7 - a .place % 8 in
-    ap Is (and-mask (c .wide .result / 2 ^ shift) 1 ∙ ap (λ (x : ℕ). x / 2 ^ shift % 2) (c .wide .ensures))
+    ap Is (and-mask (c .wide .result / 2 ^ shift) 1 ∙ ap (λ (x : ℕ). x / 2 ^ shift % 2) (c .wide .ensures .0))
     ∙ bit-here _ (a .place) _ _ (payload-bit (a .bytes .now) (a .count) (a .place) (e .before .if1 .left) (e .if2 .left))
 
 pub read-bit-spec : {M : Type 1} → statement M

@@ -7,7 +7,7 @@ use borrow.Author.Needs.{needs}
 use lib.ListN.{length}
 use Rattle.answers.proofs.ResultLaws.{not-bad}
 use Rattle.units.specs.declared.UnitAnswer.{UnitAnswer}
-use Rattle.units.proofs.Units.{Advanced, Left, what-is-left}
+use Rattle.units.proofs.UnitLaws.{Advanced, Left, what-is-left}
 use Rattle.filing.proofs.Passes.{Writing, writing-start, writing-room, writing-next, writing-end}
 use Rattle.filing.proofs.write_rows.Statement.{statement}
 use Rattle.filing.proofs.write_rows.Tie as tie

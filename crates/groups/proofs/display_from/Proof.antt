@@ -19,7 +19,7 @@ Inv-loop stream from at₀ at = Showing stream from at
 abbrev μ-loop : tie.MeasureT-loop
 μ-loop stream from at₀ at = length stream - at
 
--- the place of the loop
+-- the offset of the loop
 module _ (l : tie.At-loop Inv-loop μ-loop) where
   abbrev stream : List ℕ
   stream = l .before .before .args .stream .now

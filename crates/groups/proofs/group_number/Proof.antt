@@ -16,7 +16,7 @@ Inv-loop stream g skip₀ at₀ skip at = Counting stream g skip at
 abbrev μ-loop : tie.MeasureT-loop
 μ-loop stream g skip₀ at₀ skip at = length stream - at
 
--- the place of the loop
+-- the offset of the loop
 module _ (l : tie.At-loop Inv-loop μ-loop) where
   abbrev stream : List ℕ
   stream = l .before .before .args .stream .now

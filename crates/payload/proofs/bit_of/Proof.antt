@@ -14,7 +14,7 @@ shr-result : tie.Need-shr-result
 shr-result c = search needs
 
 returns : tie.Need-returns
-returns c = let a = c .before .args in picked (a .byte) (c .wide .result) (a .j) (c .wide .ensures) (search needs)
+returns c = let a = c .before .args in picked (a .byte) (c .wide .result) (a .j) (c .wide .ensures .0) (search needs)
 
 pub bit-of-spec : {M : Type 1} → statement M
 bit-of-spec = tie.close (tie.spec wide-requires sub-result shr-result returns)

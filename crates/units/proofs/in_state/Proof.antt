@@ -6,8 +6,8 @@ use Rattle.units.proofs.in_state.Tie as tie
 enum-told : tie.Need-enum-told
 enum-told c = search needs
 
-at-start-requires : tie.Need-at-start-requires
-at-start-requires c κs = search needs
+outside-groups-requires : tie.Need-outside-groups-requires
+outside-groups-requires c κs = search needs
 
 enum-known-state : tie.Need-enum-known-state
 enum-known-state c = search needs
@@ -30,14 +30,14 @@ after-slice-requires c κs = search needs
 enum-told-2 : tie.Need-enum-told-2
 enum-told-2 c = search needs
 
-after-end-requires : tie.Need-after-end-requires
-after-end-requires c κs = search needs
+outside-groups-requires-2 : tie.Need-outside-groups-requires-2
+outside-groups-requires-2 c κs = search needs
 
 enum-told-3 : tie.Need-enum-told-3
 enum-told-3 c = search needs
 
 returns : tie.Need-returns
-returns c = rw (c .before .enum-told .given .1) (c .at-start .ensures)
+returns c = rw (c .before .enum-told .given .1) (c .outside-groups .ensures)
 
 returns-2 : tie.Need-returns-2
 returns-2 c = rw (c .before .before .state .given .1) (c .in-head .ensures)
@@ -49,7 +49,7 @@ returns-4 : tie.Need-returns-4
 returns-4 c = rw (c .before .before .state3 .given .1) (c .after-slice .ensures)
 
 returns-5 : tie.Need-returns-5
-returns-5 c = rw (c .before .enum-told2 .given .1) (c .after-end .ensures)
+returns-5 c = rw (c .before .enum-told2 .given .1) (c .outside-groups2 .ensures)
 
 returns-6 : tie.Need-returns-6
 returns-6 c = rw (c .enum-told3 .given .1)
@@ -59,7 +59,7 @@ in-state-spec =
     tie.close
     (tie.spec
     enum-told
-    at-start-requires
+    outside-groups-requires
     enum-known-state
     in-head-requires
     enum-known-state-2
@@ -67,7 +67,7 @@ in-state-spec =
     enum-known-state-3
     after-slice-requires
     enum-told-2
-    after-end-requires
+    outside-groups-requires-2
     enum-told-3
     returns
     returns-2

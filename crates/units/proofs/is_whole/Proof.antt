@@ -10,7 +10,7 @@ use Rattle.startcode.specs.declared.Kind.{Kind}
 use Rattle.startcode.specs.declared.Kind.the-variants as kind
 use Rattle.grammar.specs.Reader.{kindIndex, sameKind}
 use Rattle.grammar.proofs.KindLaws.{last-arm}
-use Rattle.units.proofs.Laws.{not-whole}
+use Rattle.units.proofs.LengthLaws.{not-whole}
 use Rattle.units.proofs.is_whole.Statement.{statement}
 use Rattle.units.proofs.is_whole.Tie as tie
 

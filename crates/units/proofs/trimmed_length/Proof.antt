@@ -6,7 +6,7 @@ use borrow.Author.Needs.{needs}
 use lib.ListN.{length, take}
 use lib.Seq.{length-take-le}
 use Rattle.grammar.specs.Rows.{trimmed}
-use Rattle.units.proofs.Laws.{trim-more, trim-end, trim-all}
+use Rattle.units.proofs.LengthLaws.{trim-more, trim-end, trim-all}
 use Rattle.units.proofs.trimmed_length.Statement.{statement}
 use Rattle.units.proofs.trimmed_length.Tie as tie
 

@@ -9,7 +9,7 @@ use lib.ListN.{length, drop}
 use Rattle.startcode.specs.Prefix.{begins}
 use Rattle.grammar.proofs.WalkLaws.{prefix-fits, unitBetween, next-fits}
 use Rattle.units.specs.Reader.{unitFrom}
-use Rattle.units.proofs.Units.{unit-none, unit-cut, unit-overlap, unit-is}
+use Rattle.units.proofs.UnitLaws.{unit-none, unit-cut, unit-overlap, unit-is}
 use Rattle.units.proofs.unit_at.Statement.{statement}
 use Rattle.units.proofs.unit_at.Tie as tie
 

@@ -14,7 +14,7 @@ use Rattle.grammar.specs.Reader.{choose, table, byKind, step, placeIn}
 use Rattle.grammar.specs.declared.Step.{Step}
 use Rattle.units.specs.Reader.{nextOf, unitFrom}
 use Rattle.units.specs.declared.UnitAnswer.the-variants as answer
-use Rattle.units.proofs.Laws.{length-same}
+use Rattle.units.proofs.LengthLaws.{length-same}
 use Rattle.units.proofs.unit_of.Statement.{statement}
 use Rattle.units.proofs.unit_of.Tie as tie
 

@@ -5,8 +5,8 @@ use Rattle.layout.specs.Answers.{extensionGives}
 use Rattle.layout.specs.Reader.{extensionResult}
 use Rattle.layout.specs.declared.ExtensionReading.{ExtensionReading}
 use Rattle.grammar.specs.Reader.{by}
-use Rattle.units.proofs.extension_step.Statement.{statement}
-use Rattle.units.proofs.extension_step.Tie as tie
+use Rattle.steps.proofs.extension_step.Statement.{statement}
+use Rattle.steps.proofs.extension_step.Tie as tie
 
 -- what a reading gives is the step
 given : (c : tie.After-read-extension) {y : ExtensionReading} → c .read-extension .result ≡ y →

@@ -6,9 +6,9 @@ use borrow.Author.Tests.{not-true, not-false}
 use Rattle.layout.specs.Extensions.{numbered}
 use Rattle.grammar.specs.Reader.{by}
 use Rattle.grammar.specs.declared.State.the-variants.{Head}
-use Rattle.units.proofs.Laws.{head-display}
-use Rattle.units.proofs.head_extension.Statement.{statement}
-use Rattle.units.proofs.head_extension.Tie as tie
+use Rattle.steps.proofs.StepLaws.{head-display}
+use Rattle.steps.proofs.head_extension.Statement.{statement}
+use Rattle.steps.proofs.head_extension.Tie as tie
 
 shown : (e : tie.Else1) → numbered 2 (e .before .before .before .args .body .now) ≡ true
 shown e = sym (e .before .is-display .ensures) ∙ not-false _ (e .if1 .left)

@@ -1,4 +1,4 @@
--- The laws that the function of one unit goes by.
+-- The laws of a row's length: trailing zeros, and which bodies are whole.
 use Prim.Native.Nat.{ℕ, suc, _≤_, _<_, _+_, _-_}
 use mathlib.Core.Path.{_≡_, refl, sym, _∙_, ap}
 use mathlib.Core.List.{List, [], _∷_, _++_}
@@ -55,40 +55,6 @@ module _ (b : List ℕ) (n : ℕ) (h : 0 < n) (k : n ≤ length b) where
 
 pub trim-all : (b : List ℕ) → trimmed b ≡ trimmed (take (length b) b)
 trim-all b = ap trimmed (sym (take-length b))
-
--- ── empty bodies ──
-
-pub nil-length : (b : List ℕ) → length b ≡ 0 → isNil b ≡ true
-nil-length [] e = refl
-nil-length (x ∷ b) e = absurd (omega arith)
-
-pub not-nil-length : (b : List ℕ) → (length b ≡ 0 → ⊥) → isNil b ≡ false
-not-nil-length [] h = absurd (h refl)
-not-nil-length (x ∷ b) h = refl
-
--- ── number 2 in a group's head ──
-
-pub head-display : (body : List ℕ) → numbered 2 body ≡ true → extensionResult place.Head body ≡ displayOf body
-unfolding extensionResult byNumber
-head-display body t = rw (number-iff body 2 .1 (number-two body .0 t))
-
--- ── slices ──
-
-module _ (rule : SliceRule) (least code n : ℕ) (body : List ℕ) (e : n ≡ code) where
-  slice-next : go (Slices rule (n + 1)) ≡ go (Slices rule (code + 1))
-  slice-next = ap (λ (x : ℕ). go (Slices rule (x + 1))) e
-
-  pub slice-free : allZero body ≡ false → rule .tested ≡ false → go (Slices rule (n + 1)) ≡ sliceStep rule least (record { code = code; body = body })
-  slice-free z t = slice-next ∙ rw (z, t)
-
-  pub slice-order : allZero body ≡ false → rule .tested ≡ true → n < least → stop SliceOrder ≡ sliceStep rule least (record { code = code; body = body })
-  slice-order z t h = rw (z, t, lt-ltb code least (omega arith))
-
-  pub slice-row : allZero body ≡ false → rule .tested ≡ true → least ≤ n → rule .rows ≤ n → stop SliceRow ≡ sliceStep rule least (record { code = code; body = body })
-  slice-row z t h k = rw (z, t, le-ltb code least (omega arith), le-leb (rule .rows) code (omega arith))
-
-  pub slice-go : allZero body ≡ false → rule .tested ≡ true → least ≤ n → n < rule .rows → go (Slices rule (n + 1)) ≡ sliceStep rule least (record { code = code; body = body })
-  slice-go z t h k = slice-next ∙ rw (z, t, le-ltb code least (omega arith), lt-leb (rule .rows) code (omega arith))
 
 -- ── a row's length ──
 

@@ -13,8 +13,8 @@ use Rattle.grammar.specs.declared.SliceRule.{SliceRule}
 use Rattle.grammar.specs.declared.State.{State}
 use Rattle.grammar.specs.declared.State.the-variants.{Head}
 use Rattle.grammar.specs.declared.Step.the-variants.{Go}
-use Rattle.units.proofs.header_step.Statement.{statement}
-use Rattle.units.proofs.header_step.Tie as tie
+use Rattle.steps.proofs.header_step.Statement.{statement}
+use Rattle.steps.proofs.header_step.Tie as tie
 
 abbrev next : SequenceHeader → State
 next h = Head (sliceRule h) false

@@ -1,7 +1,7 @@
 -- An ending's body is empty, or it is STUFFING.
-use Rattle.units.proofs.Laws.{nil-length, not-nil-length}
-use Rattle.units.proofs.ending_step.Statement.{statement}
-use Rattle.units.proofs.ending_step.Tie as tie
+use Rattle.steps.proofs.StepLaws.{nil-length, not-nil-length}
+use Rattle.steps.proofs.ending_step.Statement.{statement}
+use Rattle.steps.proofs.ending_step.Tie as tie
 
 returns : tie.Need-returns
 returns c = let b = c .before .args .body .now in rw (not-nil-length b (c .if1 .taken))

@@ -1,8 +1,8 @@
 -- A body with no byte but 00 is SHORT.
 use mathlib.Core.Path.{sym, _∙_}
 use borrow.Author.Needs.{needs}
-use Rattle.units.proofs.picture_step.Statement.{statement}
-use Rattle.units.proofs.picture_step.Tie as tie
+use Rattle.steps.proofs.picture_step.Statement.{statement}
+use Rattle.steps.proofs.picture_step.Tie as tie
 
 all-zero-requires : tie.Need-all-zero-requires
 all-zero-requires c κs = search needs

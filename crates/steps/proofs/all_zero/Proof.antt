@@ -6,8 +6,8 @@ use borrow.Author.Needs.{needs}
 use lib.ListN.{length, drop}
 use Rattle.layout.specs.Reader.{allZero}
 use Rattle.layout.proofs.EndLaws.{zero-end, zero-more, zero-not}
-use Rattle.units.proofs.all_zero.Statement.{statement}
-use Rattle.units.proofs.all_zero.Tie as tie
+use Rattle.steps.proofs.all_zero.Statement.{statement}
+use Rattle.steps.proofs.all_zero.Tie as tie
 
 abbrev Inv-loop : tie.InvT-loop
 Inv-loop body i₀ i = (i ≤ length body) × (allZero body ≡ allZero (drop i body))

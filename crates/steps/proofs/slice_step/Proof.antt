@@ -5,9 +5,9 @@ use native.Mathlib.Omega.{arith}
 use borrow.Author.Needs.{needs}
 use borrow.Author.Tests.{not-true, not-false}
 use Rattle.layout.specs.Reader.{allZero}
-use Rattle.units.proofs.Laws.{slice-free, slice-order, slice-row, slice-go}
-use Rattle.units.proofs.slice_step.Statement.{statement}
-use Rattle.units.proofs.slice_step.Tie as tie
+use Rattle.steps.proofs.StepLaws.{slice-free, slice-order, slice-row, slice-go}
+use Rattle.steps.proofs.slice_step.Statement.{statement}
+use Rattle.steps.proofs.slice_step.Tie as tie
 
 nonzero : (e : tie.Else1) → allZero (e .before .before .before .args .body .now) ≡ false
 nonzero e = sym (e .before .all-zero .ensures) ∙ e .if1 .left
