@@ -212,12 +212,12 @@ fn refused_body(why: layout::Reason) -> Answer
 }
 
 fn refused_stream(why: filing::Refusal) -> Answer
-    ensures { λ r. ⌜ r ≡ counted (refused (filing.reasonNumber (why .reason)) (why .place ∷ [])) ⌝ }
+    ensures { λ r. ⌜ r ≡ counted (refused (filing.reasonNumber (why .reason)) (why .offset ∷ [])) ⌝ }
 {
     let reason = why.reason;
     Answer {
         status: filing_number(reason),
-        place: why.place,
+        place: why.offset,
         count: 0,
     }
 }

@@ -38,7 +38,7 @@ fn reason(why: Reason) {
 fn refusal(r: Refusal) {
     let why = r.reason;
     reason(why);
-    print::number(r.place as u64);
+    print::number(r.offset as u64);
 }
 
 fn answer(a: FilingAnswer) {

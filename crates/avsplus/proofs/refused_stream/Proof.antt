@@ -12,7 +12,7 @@ filing-number-requires : tie.Need-filing-number-requires
 filing-number-requires c κs = search needs
 
 returns : tie.Need-returns
-returns c = ap (λ (n : ℕ). counted (refused n (c .before .args .why .place ∷ []))) (c .filing-number .ensures)
+returns c = ap (λ (n : ℕ). counted (refused n (c .before .args .why .offset ∷ []))) (c .filing-number .ensures)
 
 pub refused-stream-spec : {M : Type 1} → statement M
 refused-stream-spec = tie.close (tie.spec filing-number-requires returns)
