@@ -1,4 +1,4 @@
 -- The laws of the passes, and the theorems.
-pub mod Passes
+pub mod PassLaws
 pub mod Demand
 pub mod Main

@@ -2,8 +2,8 @@
 use Prim.Native.Nat.{ℕ}
 use mathlib.Core.Path.{_≡_, refl, sym, _∙_, ap, subst}
 use mathlib.Core.Logic.{_⊎_, inl, inr}
-use mathlib.Core.List.{List, [], _∷_}
-use mathlib.Core.Bool.{true, false, cond, _&&_, not}
+use mathlib.Core.List.{List, [], _∷_, map}
+use mathlib.Core.Bool.{Bool, true, false, cond, _&&_, not}
 use denote.Enum.Declared
 use mir.Val.{hasKey}
 use types.Run.{OneOf, miss}
@@ -11,8 +11,9 @@ use native.Mathlib.Omega.{arith}
 use borrow.Author.Tests.{eqb-true, eq-eqb}
 use lib.Dec.{T, leb, eqb}
 use Rattle.answers.specs.Answers.{Outcome, done, refused, UNKNOWN}
+use Rattle.bits.specs.Lists.{All}
 use Rattle.answers.proofs.OutcomeLaws.{undone, done-one}
-use Rattle.bits.proofs.TestLaws.{by-test}
+use Rattle.bits.proofs.TestLaws.{by-test, and-true}
 use Rattle.startcode.specs.Kinds.{Codes, kindIn, kinds, kindOf}
 use Rattle.startcode.specs.declared.Kind.{Kind}
 use Rattle.startcode.proofs.Kind as Declaration
@@ -58,9 +59,33 @@ tag-is kind.Extension = refl
 tag-is kind.PBPicture = refl
 tag-is kind.EditCode = refl
 
--- where a `match` has come to its last arm, the kind is none of those before
-pub last-arm : (tags : List ℕ) (j k : Kind) → OneOf tags (Declared.tagOf Declaration.the-type k) → T (not (hasKey tags (kindIndex j))) → sameKind k j ≡ false
-last-arm tags j k o n = by-test (sameKind k j) (λ t. absurd (miss tags (kindIndex j) n (subst (OneOf tags) (ap (Declared.tagOf Declaration.the-type) (same-true k j t) ∙ tag-is j) o))) (λ f. f)
+not-this : (tags : List ℕ) (j k : Kind) → OneOf tags (Declared.tagOf Declaration.the-type k) → not (hasKey tags (kindIndex j)) ≡ true → sameKind k j ≡ false
+not-this tags j k o n =
+    by-test (sameKind k j)
+    (λ t. absurd (miss tags (kindIndex j) (subst T (sym n) tt) (subst (OneOf tags) (ap (Declared.tagOf Declaration.the-type) (same-true k j t) ∙ tag-is j) o)))
+    (λ f. f)
+
+-- the numbers of the kinds that are not named
+abbrev others : List Kind → List ℕ → List ℕ
+others named [] = []
+others named (n ∷ ns) = cond (hasKey (map kindIndex named) n) (others named ns) (n ∷ others named ns)
+
+-- none of these kinds has one of these numbers
+abbrev noneHas : List ℕ → List Kind → Bool
+noneHas tags [] = true
+noneHas tags (j ∷ js) = not (hasKey tags (kindIndex j)) && noneHas tags js
+
+none-of : (tags : List ℕ) (js : List Kind) (k : Kind) → OneOf tags (Declared.tagOf Declaration.the-type k) → noneHas tags js ≡ true → All (λ j. sameKind k j ≡ false) js
+none-of tags [] k o t = tt
+none-of tags (j ∷ js) k o t = let (here, rest) = and-true _ _ t in (not-this tags j k o here, none-of tags js k o rest)
+
+-- where a `match` has come to its last arm, the kind is none of those named by the arms before
+module _ (named : List Kind) where
+  abbrev left : List ℕ
+  left = others named (0 ∷ 1 ∷ 2 ∷ 3 ∷ 4 ∷ 5 ∷ 6 ∷ 7 ∷ [])
+
+  pub last-arm : (k : Kind) → OneOf left (Declared.tagOf Declaration.the-type k) → noneHas left named ≡ true → All (λ j. sameKind k j ≡ false) named
+  last-arm k o t = none-of left named k o t
 
 -- no unit has two kinds
 pub apart : {P : Type 0} {o : Outcome Kind} (j k : Kind) → sameKind j k ≡ false → o ≡ done j → o ≡ done k → P

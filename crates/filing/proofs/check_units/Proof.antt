@@ -8,7 +8,7 @@ use borrow.Author.Tests.{not-true, not-false}
 use lib.ListN.{length}
 use Rattle.units.specs.declared.UnitAnswer.{UnitAnswer}
 use Rattle.units.proofs.UnitLaws.{Advanced, Left, what-is-left}
-use Rattle.filing.proofs.Passes.{Checking, checking-start, checking-next, end-good, end-unended, counted, no-code}
+use Rattle.filing.proofs.PassLaws.{Checking, checking-start, checking-next, end-good, end-unended, counted, no-code}
 use Rattle.filing.proofs.check_units.Statement.{statement}
 use Rattle.filing.proofs.check_units.Tie as tie
 

@@ -5,7 +5,7 @@ use borrow.Author.Needs.{needs}
 use Prim.Native.Nat.{ℕ, _+_, _*_}
 use mathlib.Core.List.{_∷_, _++_}
 use lib.ListN.{set, take, drop, length-set}
-use Rattle.filing.proofs.Passes.{three-set}
+use Rattle.filing.proofs.PassLaws.{three-set}
 use Rattle.filing.proofs.put_row.Statement.{statement}
 use Rattle.filing.proofs.put_row.Tie as tie
 

@@ -8,7 +8,7 @@ use lib.ListN.{length}
 use Rattle.answers.proofs.ResultLaws.{not-bad}
 use Rattle.units.specs.declared.UnitAnswer.{UnitAnswer}
 use Rattle.units.proofs.UnitLaws.{Advanced, Left, what-is-left}
-use Rattle.filing.proofs.Passes.{Writing, writing-start, writing-room, writing-next, writing-end}
+use Rattle.filing.proofs.PassLaws.{Writing, writing-start, writing-room, writing-next, writing-end}
 use Rattle.filing.proofs.write_rows.Statement.{statement}
 use Rattle.filing.proofs.write_rows.Tie as tie
 

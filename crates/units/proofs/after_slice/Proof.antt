@@ -1,24 +1,11 @@
 -- Each arm is one line of the table; where it comes to the last, the table has no such kind.
-use Prim.Native.Nat.{ℕ}
-use mathlib.Core.Path.{_≡_}
-use mathlib.Core.List.{List, [], _∷_}
-use mathlib.Core.Bool.{false, not}
-use mir.Val.{hasKey}
-use lib.Dec.{T}
+use mathlib.Core.Path.{refl}
+use mathlib.Core.List.{[], _∷_}
 use borrow.Author.Needs.{needs}
-use Rattle.startcode.specs.declared.Kind.{Kind}
 use Rattle.startcode.specs.declared.Kind.the-variants as kind
-use Rattle.grammar.specs.Reader.{kindIndex, sameKind}
 use Rattle.grammar.proofs.KindLaws.{last-arm}
 use Rattle.units.proofs.after_slice.Statement.{statement}
 use Rattle.units.proofs.after_slice.Tie as tie
-
--- the kinds of the last arm, by their numbers
-abbrev left : List ℕ
-left = 3 ∷ 5 ∷ []
-
-other : (c : tie.At-match-keys7) (j : Kind) → T (not (hasKey left (kindIndex j))) → sameKind (c .before .before .args .kind) j ≡ false
-other c j n = last-arm left j (c .before .before .args .kind) (c .match .keys7) n
 
 enum-told : tie.Need-enum-told
 enum-told c = search needs
@@ -75,7 +62,7 @@ returns-6 : tie.Need-returns-6
 returns-6 c = rw (c .before .enum-told6 .given .1) (c .ending-step2 .ensures)
 
 returns-7 : tie.Need-returns-7
-returns-7 c = rw (other c kind.Slice tt, other c kind.IPicture tt, other c kind.PBPicture tt, other c kind.SequenceHeader tt, other c kind.SequenceEnd tt, other c kind.EditCode tt)
+returns-7 c = let o = last-arm (kind.Slice ∷ kind.IPicture ∷ kind.PBPicture ∷ kind.SequenceHeader ∷ kind.SequenceEnd ∷ kind.EditCode ∷ []) (c .before .before .args .kind) (c .match .keys7) refl in rw (o .0, o .1 .0, o .1 .1 .0, o .1 .1 .1 .0, o .1 .1 .1 .1 .0, o .1 .1 .1 .1 .1 .0)
 
 pub after-slice-spec : {M : Type 1} → statement M
 after-slice-spec =

@@ -1,24 +1,11 @@
 -- Each arm is one line of the table; where it comes to the last, the table has no such kind.
-use Prim.Native.Nat.{ℕ}
-use mathlib.Core.Path.{_≡_}
-use mathlib.Core.List.{List, [], _∷_}
-use mathlib.Core.Bool.{false, not}
-use mir.Val.{hasKey}
-use lib.Dec.{T}
+use mathlib.Core.Path.{refl}
+use mathlib.Core.List.{[], _∷_}
 use borrow.Author.Needs.{needs}
-use Rattle.startcode.specs.declared.Kind.{Kind}
 use Rattle.startcode.specs.declared.Kind.the-variants as kind
-use Rattle.grammar.specs.Reader.{kindIndex, sameKind}
 use Rattle.grammar.proofs.KindLaws.{last-arm}
 use Rattle.units.proofs.in_head.Statement.{statement}
 use Rattle.units.proofs.in_head.Tie as tie
-
--- the kinds of the last arm, by their numbers
-abbrev left : List ℕ
-left = 0 ∷ 1 ∷ 2 ∷ 6 ∷ 7 ∷ []
-
-other : (c : tie.At-match-keys4) (j : Kind) → T (not (hasKey left (kindIndex j))) → sameKind (c .before .before .args .kind) j ≡ false
-other c j n = last-arm left j (c .before .before .args .kind) (c .match .keys4) n
 
 enum-told : tie.Need-enum-told
 enum-told c = search needs
@@ -45,7 +32,7 @@ returns-3 : tie.Need-returns-3
 returns-3 c = rw (c .before .enum-told3 .given .1) (c .picture-step .ensures)
 
 returns-4 : tie.Need-returns-4
-returns-4 c = rw (other c kind.UserData tt, other c kind.Extension tt, other c kind.IPicture tt)
+returns-4 c = let o = last-arm (kind.UserData ∷ kind.Extension ∷ kind.IPicture ∷ []) (c .before .before .args .kind) (c .match .keys4) refl in rw (o .0, o .1 .0, o .1 .1 .0)
 
 pub in-head-spec : {M : Type 1} → statement M
 in-head-spec =

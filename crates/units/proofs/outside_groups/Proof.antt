@@ -1,28 +1,18 @@
 -- Each table has one kind; where the match comes to its last arm, the kind is neither.
-use Prim.Native.Nat.{ℕ}
-use mathlib.Core.Path.{_≡_}
-use mathlib.Core.List.{List, [], _∷_}
-use mathlib.Core.Bool.{Bool, true, false, cond, not}
-use mir.Val.{hasKey}
-use lib.Dec.{T}
+use mathlib.Core.Path.{_≡_, refl}
+use mathlib.Core.List.{[], _∷_}
+use mathlib.Core.Bool.{Bool, true, false, cond}
 use borrow.Author.Needs.{needs}
 use Rattle.startcode.specs.declared.Kind.{Kind}
 use Rattle.startcode.specs.declared.Kind.the-variants as kind
 use Rattle.grammar.specs.Grammar.{StreamUnit}
-use Rattle.grammar.specs.Reader.{kindIndex, sameKind, choose, table}
+use Rattle.grammar.specs.Reader.{sameKind, choose, table}
 use Rattle.grammar.specs.declared.State.the-variants.{Start, Ended}
 use Rattle.grammar.specs.declared.Reason.the-variants.{OutOfPlace}
 use Rattle.grammar.specs.declared.Step.the-variants.{Stop}
 use Rattle.grammar.proofs.KindLaws.{last-arm}
 use Rattle.units.proofs.outside_groups.Statement.{statement}
 use Rattle.units.proofs.outside_groups.Tie as tie
-
--- the kinds of the last arm, by their numbers
-abbrev left : List ℕ
-left = 0 ∷ 2 ∷ 3 ∷ 4 ∷ 5 ∷ 6 ∷ []
-
-other : (c : tie.At-match-keys3) (j : Kind) → T (not (hasKey left (kindIndex j))) → sameKind (c .before .before .args .kind) j ≡ false
-other c j n = last-arm left j (c .before .before .args .kind) (c .match .keys3) n
 
 -- whichever table it is, the kind is not its own
 neither : (ended : Bool) (k : Kind) (u : StreamUnit) → sameKind k kind.SequenceHeader ≡ false → sameKind k kind.EditCode ≡ false → Stop OutOfPlace ≡ choose k (table (cond ended Ended Start) u)
@@ -54,7 +44,7 @@ returns-4 : tie.Need-returns-4
 returns-4 c = rw (c .before .enum-told2 .given .1, c .if2 .left)
 
 returns-5 : tie.Need-returns-5
-returns-5 c = let a = c .before .before .args in neither (a .ended) (a .kind) _ (other c kind.SequenceHeader tt) (other c kind.EditCode tt)
+returns-5 c = let o = last-arm (kind.SequenceHeader ∷ kind.EditCode ∷ []) (c .before .before .args .kind) (c .match .keys3) refl in let a = c .before .before .args in neither (a .ended) (a .kind) _ (o .0) (o .1 .0)
 
 pub outside-groups-spec : {M : Type 1} → statement M
 outside-groups-spec =
