@@ -75,15 +75,15 @@ module _ (s : List ℕ) (at : ℕ) (h : Here s at) (l : at + 3 < length s) where
   unfolding unitsIn unitsFrom
   unit-units b = from-chunks s at _ (chunks-unit s at prefixed l b)
 
-  pub units-over : next < at + 4 → unitsFrom s at ≡ []
-  units-over k =
+  pub units-over : (end : ℕ) → end ≡ next → end < at + 4 → unitsFrom s at ≡ []
+  units-over end e k =
       by-test (begins (drop (at + 3) s)) over-units (λ f. let d = next-fits s at prefixed l f .0 in absurd (omega arith))
 
-  pub walked : at + 4 ≤ next → Walked s at next
-  walked k =
+  pub walked : (end : ℕ) → end ≡ next → at + 4 ≤ end → Walked s at end
+  walked end e k =
       by-test (begins (drop (at + 3) s))
-      (λ t. let e = over-next t in absurd (omega arith))
-      (λ f. record { units = unit-units f; here = record { inside = next-fits s at prefixed l f .1; prefix = next-begins s at prefixed l f } })
+      (λ t. let o = over-next t in absurd (omega arith))
+      (λ f. rw e (record { units = unit-units f; here = record { inside = next-fits s at prefixed l f .1; prefix = next-begins s at prefixed l f } }))
 
 -- ── a group's head ──
 

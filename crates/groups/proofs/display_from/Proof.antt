@@ -1,6 +1,6 @@
 -- What is left of the head has the same display extension.
 use Prim.Native.Nat.{ℕ, _+_, _-_, _≤_, _<_}
-use mathlib.Core.Path.{_≡_, sym, _∙_, ap, subst}
+use mathlib.Core.Path.{_≡_, sym, _∙_, ap}
 use mathlib.Core.List.{List, []}
 use native.Mathlib.Omega.{arith}
 use borrow.Author.Needs.{needs}
@@ -33,12 +33,10 @@ module _ (k : tie.After-next-prefix Inv-loop μ-loop) where
   here = k .before .before
 
   over : k .next-prefix .result < here .loop .at + 4 → unitsFrom (stream here) (here .loop .at) ≡ []
-  over h = let e = k .next-prefix .ensures in units-over (stream here) (here .loop .at) (here .loop .inv .here) (k .before .loop-test .taken) (omega arith)
+  over = units-over (stream here) (here .loop .at) (here .loop .inv .here) (k .before .loop-test .taken) (k .next-prefix .result) (k .next-prefix .ensures)
 
   walk : here .loop .at + 4 ≤ k .next-prefix .result → Walked (stream here) (here .loop .at) (k .next-prefix .result)
-  walk h =
-      let e = k .next-prefix .ensures in
-      subst (Walked (stream here) (here .loop .at)) (sym e) (walked (stream here) (here .loop .at) (here .loop .inv .here) (k .before .loop-test .taken) (omega arith))
+  walk = walked (stream here) (here .loop .at) (here .loop .inv .here) (k .before .loop-test .taken) (k .next-prefix .result) (k .next-prefix .ensures)
 
 -- the unit that was read
 module _ (u : tie.After-in-group-head Inv-loop μ-loop) where
