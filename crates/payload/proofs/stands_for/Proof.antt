@@ -1,6 +1,7 @@
 -- Half of a number below 2^32 - 1 is below 2^31, so neither sign overflows.
-use Prim.Native.Nat.{ℕ, zero, suc, _+_, _/_, _<_}
+use Prim.Native.Nat.{ℕ, zero, suc, _+_, _/_, _%_, _<_}
 use mathlib.Core.Path.{_≡_, refl, sym, ap, _∙_}
+use mathlib.Core.Bool.{cond}
 use native.Mathlib.Omega.{arith}
 use borrow.Author.Needs.{needs}
 use borrow.Author.Tests.{eq-eqb, ne-eqb}
@@ -36,7 +37,9 @@ sub-result c = let h = half-small c in rw (minus (c .before .args .n / 2) h) (mi
 
 returns : tie.Need-returns
 unfolding standsFor
-returns c = toZ-pos w32 {n = (c .before .args .n + 1) / 2} (omega arith) ∙ simp (eq-eqb _ _ (c .if1 .taken))
+returns c =
+    let n = c .before .args .n in
+    toZ-pos w32 {n = (n + 1) / 2} (omega arith) ∙ ap (λ t. cond t (pos ((n + 1) / 2)) (negℤ (pos (n / 2)))) (sym (eq-eqb (n % 2) 1 (c .if1 .taken)))
 
 returns-2 : tie.Need-returns-2
 unfolding standsFor
