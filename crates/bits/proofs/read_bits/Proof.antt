@@ -6,11 +6,11 @@ use native.Mathlib.Omega.{arith}
 use native.Mathlib.Numerals.{add-one}
 use native.Mathlib.Nat.{pow-suc, sub-zero}
 use borrow.Author.Needs.{needs}
-use borrow.Author.Tests.{le-leb, lt-leb}
+use borrow.Author.Tests.{le-leb}
 use lib.ListN.{length, drop}
 use lib.Pow.{pow-mono}
 use Rattle.bits.specs.Bits.{payload, readOn, readAt}
-use Rattle.bits.proofs.BitLaws.{length-payload, all-payload, bit-read, bit-missing, bit-small, bit-inside, read-step, read-end}
+use Rattle.bits.proofs.BitLaws.{length-payload, all-payload, bit-read, bit-missing, bit-small, bit-inside, read-wide, read-step, read-end}
 use Rattle.bits.proofs.read_bits.Statement.{statement}
 use Rattle.bits.proofs.read_bits.Tie as tie
 use Rattle.bits.proofs.read_bits.Reads as reads
@@ -26,11 +26,10 @@ abbrev μ-loop : tie.MeasureT-loop
 μ-loop bytes count place width value₀ at₀ k₀ value at k = width - k
 
 returns : tie.Need-returns Inv-loop μ-loop
-unfolding readAt
-returns c = simp (lt-leb _ _ (c .if1 .taken))
+returns c = let a = c .before .before .args in sym (read-wide (payload (a .bytes .now) (a .count)) (a .place) (a .width) (c .if1 .taken))
 
 loop-holds : tie.Need-loop-holds Inv-loop μ-loop
-loop-holds c = (search needs, search needs, simp sub-zero)
+loop-holds c = (omega arith, omega arith, simp sub-zero)
 
 read-bit-requires : tie.Need-read-bit-requires Inv-loop μ-loop
 read-bit-requires c κs = search needs
