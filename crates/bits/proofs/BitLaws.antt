@@ -139,15 +139,6 @@ pub read-wide : (l : List ℕ) (place width : ℕ) → 32 < width → readAt l p
 unfolding readAt
 read-wide l place width h = simp (lt-leb width 32 h)
 
-pub read-step : (value width k b at : ℕ) (l : List ℕ) → k < width → drop at l ≡ b ∷ drop (at + 1) l →
-    readOn value (width - k) (drop at l) ≡ readOn (value * 2 + b) (width - (k + 1)) (drop (at + 1) l)
-unfolding readOn
-read-step value width k b at l h e = let w : width - k ≡ suc (width - (k + 1)) = omega arith in rw (w, e)
-
-pub read-end : (value width k at : ℕ) (l : List ℕ) → k < width → drop at l ≡ [] → readOn value (width - k) (drop at l) ≡ read.Missing
-unfolding readOn
-read-end value width k at l h e = let w : width - k ≡ suc (width - (k + 1)) = omega arith in rw (w, e)
-
 -- a read that is not refused for its width has a width of at most 32
 pub not-wide : (l : List ℕ) (place width : ℕ) → (readAt l place width ≡ read.TooWide → ⊥) → width ≤ 32
 not-wide l place width h = by-test (leb width 32) (leb-true width 32) (λ f. absurd (h (read-wide l place width (leb-false width 32 f))))

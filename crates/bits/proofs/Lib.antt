@@ -3,4 +3,5 @@ pub mod TestLaws
 pub mod BitLaws
 pub mod ReadLaws
 pub mod PackingLaws
+pub mod ChunkLaws
 pub mod Main

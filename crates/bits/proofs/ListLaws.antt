@@ -1,10 +1,11 @@
 -- The laws of `All`, and of what is left of a list at a place.
 use Prim.Native.Nat.{ℕ, zero, suc, _+_, _<_}
-use mathlib.Core.Path.{_≡_}
+use mathlib.Core.Path.{_≡_, sym}
 use mathlib.Core.List.{List, [], _∷_, _++_}
 use native.Mathlib.Numerals.{add-one}
+use native.Mathlib.Nat.{zero-add, suc-add}
 use lib.ListN.{length, getD, take, drop}
-use lib.Seq.{drop-cons}
+use lib.Seq.{drop-cons, take-nil}
 use Rattle.bits.specs.Lists.{All}
 
 pub all-append : {A : Type 0} (P : A → Type 0) (l m : List A) → All P l → All P m → All P (l ++ m)
@@ -33,3 +34,9 @@ all-take P (suc n) (x ∷ l) h = (h .0, all-take P n l (h .1))
 -- the element at a place heads what is left there
 pub at-head : {A : Type 0} (l : List A) (i : ℕ) (d : A) → i < length l → drop i l ≡ getD l i d ∷ drop (i + 1) l
 at-head l i d h = rw add-one (drop-cons l i d h)
+
+-- what is left of a part is a part of what is left
+pub drop-take : (n m : ℕ) (l : List ℕ) → drop n (take (n + m) l) ≡ take m (drop n l)
+drop-take zero m l = rw zero-add
+drop-take (suc n) m [] = rw (suc-add n m) (sym (take-nil m))
+drop-take (suc n) m (b ∷ l) = rw (suc-add n m) (drop-take n m l)

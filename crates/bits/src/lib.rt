@@ -1,7 +1,8 @@
 // Reading bits of bytes, most significant first.
 ghost use mathlib.Core.Path.{_≡_};
-ghost use Prim.Native.Nat.{_<_};
-ghost use Rattle.bits.specs.Bits.{payload, bitAt, readAt};
+ghost use Prim.Native.Nat.{_+_, _-_, _*_, _/_, _%_, _^_, _≤_, _<_};
+ghost use lib.ListN.{take, drop};
+ghost use Rattle.bits.specs.Bits.{bitsIn, bitsOf, payload, bitAt, readAt};
 
 // The bit at a place, or none.
 pub enum Bit {
@@ -39,27 +40,55 @@ pub fn read_bit(bytes: &[u8], count: usize, place: usize) -> Bit
     Bit::Is(byte >> (7 - place % 8) & 1)
 }
 
-// The number in width bits from a place of the payload on.
+// The number in width bits from a place of the payload on, by whole bytes: all bits are there where the last one is.
 pub fn read_bits(bytes: &[u8], count: usize, place: usize, width: u32) -> Read
     ensures { λ r. ⌜ r ≡ readAt (payload (now (bytes .entry)) count) place width ⌝ }
 {
     if 32 < width {
         return Read::TooWide;
     }
-    let mut value: u32 = 0;
-    let mut at = place;
-    let mut k: u32 = 0;
-    while k < width {
-        match read_bit(bytes, count, at) {
-            Bit::Is(bit) => {
-                value = value * 2 + bit;
-                at += 1;
-                k += 1;
-            }
-            Bit::Missing => {
-                return Read::Missing;
-            }
-        }
+    if width == 0 {
+        return Read::Value(0);
     }
-    Read::Value(value)
+    let more = (width - 1) as usize; // bits after the first
+    if count <= more {
+        return Read::Missing;
+    }
+    if count - more <= place {
+        return Read::Missing;
+    }
+    let last = place + more;
+    if bytes.len() <= last / 8 {
+        return Read::Missing;
+    }
+    Read::Value(cut(number(bytes, place / 8, last / 8 + 1), 7 - last % 8, width))
+}
+
+// The number that some bytes write, from one on and before an end: at most five.
+fn number(bytes: &[u8], from: usize, end: usize) -> u64
+    requires { do ⌜ (from ≤ end) × (end ≤ from + 5) × (end ≤ (← ⟦bytes.len()⟧)) ⌝ }
+    ensures { λ r. ⌜ take ((end - from) * 8) (drop (from * 8) (bitsOf (now (bytes .entry)))) ≡ bitsIn ((end - from) * 8) r ⌝ }
+{
+    let mut value: u64 = 0;
+    let mut at = from;
+    while at < end {
+        value = value * 256 + long(bytes[at]);
+        at += 1;
+    }
+    value
+}
+
+fn long(x: u8) -> u64
+    ensures { λ r. ⌜ (r ≡ x) × (r < 256) ⌝ }
+{
+    x as u64
+}
+
+// A number's last bits but those after, as many as width says.
+fn cut(value: u64, after: usize, width: u32) -> u32
+    requires { ⌜ (after < 8) × (width ≤ 32) ⌝ }
+    ensures { λ r. ⌜ r ≡ value / 2 ^ after % 2 ^ width ⌝ }
+{
+    let ones: u64 = (1 << width) - 1;
+    (value >> after & ones) as u32
 }

@@ -1,120 +1,99 @@
--- What is read so far and what is still to be read make the whole read.
-use Prim.Native.Nat.{ℕ, _+_, _-_, _*_, _^_, _≤_, _<_}
-use mathlib.Core.Path.{_≡_, refl, sym, ap, _∙_}
-use mathlib.Core.List.{List, _∷_}
+-- A number is read exactly where the count and the bytes reach its last bit.
+use Prim.Native.Nat.{ℕ, _+_, _-_, _*_, _/_, _%_, _^_, _≤_, _<_, min}
+use mathlib.Core.Path.{_≡_, sym, ap, _∙_}
+use mathlib.Core.List.{List}
 use native.Mathlib.Omega.{arith}
-use native.Mathlib.Numerals.{add-one}
-use native.Mathlib.Nat.{pow-suc, sub-zero}
+use native.Mathlib.Nat.{mod-lt}
 use borrow.Author.Needs.{needs}
-use borrow.Author.Tests.{le-leb}
-use lib.ListN.{length, drop}
-use lib.Pow.{pow-mono}
-use Rattle.bits.specs.Bits.{payload, readOn, readAt}
-use Rattle.bits.proofs.BitLaws.{length-payload, all-payload, bit-read, bit-missing, bit-small, bit-inside, read-wide, read-step, read-end}
+use lib.ListN.{length, take, drop}
+use lib.Pow.{pow-pos}
+use lib.Seq.{drop-drop}
+use Rattle.bits.specs.Bits.{bitsIn, bitsOf, payload, readOn, readAt}
+use Rattle.bits.specs.declared.Read.the-variants.{Value, Missing}
+use Rattle.bits.proofs.BitLaws.{length-payload, read-wide}
+use Rattle.bits.proofs.ReadLaws.{value-exactly, missing-exactly}
+use Rattle.bits.proofs.ChunkLaws.{cut-bits, within-count}
 use Rattle.bits.proofs.read_bits.Statement.{statement}
 use Rattle.bits.proofs.read_bits.Tie as tie
-use Rattle.bits.proofs.read_bits.Reads as reads
-use Rattle.bits.proofs.read_bits.Lts as lts
-use Rattle.bits.proofs.read_bit.Reads as read-bit-reads
 
-abbrev Inv-loop : tie.InvT-loop
-Inv-loop bytes count place width value₀ at₀ k₀ value at k =
-    (k ≤ width) × (value < 2 ^ k)
-    × (readOn 0 width (drop place (payload bytes count)) ≡ readOn value (width - k) (drop at (payload bytes count)))
+returns : tie.Need-returns
+returns c = let a = c .before .before .args in sym (read-wide _ (a .place) (a .width) (c .if1 .taken))
 
-abbrev μ-loop : tie.MeasureT-loop
-μ-loop bytes count place width value₀ at₀ k₀ value at k = width - k
-
-returns : tie.Need-returns Inv-loop μ-loop
-returns c = let a = c .before .before .args in sym (read-wide (payload (a .bytes .now) (a .count)) (a .place) (a .width) (c .if1 .taken))
-
-loop-holds : tie.Need-loop-holds Inv-loop μ-loop
-loop-holds c = (omega arith, omega arith, simp sub-zero)
-
-read-bit-requires : tie.Need-read-bit-requires Inv-loop μ-loop
-read-bit-requires c κs = search needs
-
-enum-known-bit : tie.Need-enum-known-bit Inv-loop μ-loop
-enum-known-bit c = search needs
-
--- the bit that a turn read heads what is left, and it is 0 or 1
-module _ (c : tie.After-known-told Inv-loop μ-loop) where
-  abbrev read-turn : tie.In-loop Inv-loop μ-loop
-  read-turn = c .before .before .before .before
-
-  abbrev read-payload : List ℕ
-  read-payload = let a = read-turn .before .before .before .before .args in payload (a .bytes .now) (a .count)
-
-  heads-rest : drop (read-turn .before .loop .at) read-payload ≡ c .before .bit .given .0 .0 ∷ drop (read-turn .before .loop .at + 1) read-payload
-  heads-rest = bit-read read-payload (read-turn .before .loop .at) _ (sym (c .before .before .before .read-bit .ensures) ∙ c .before .bit .given .1)
-
-  is-bit : c .before .bit .given .0 .0 < 2
-  is-bit = let a = read-turn .before .before .before .before .args in bit-small read-payload (read-turn .before .loop .at) _ _ (all-payload (a .bytes .now) (a .count)) heads-rest
-
-  value-small : read-turn .before .loop .value < 2147483648
-  value-small = let l = read-turn .before .loop in omega (arith, pow-mono {i = l .k} {j = 31} (omega arith))
-
-mul-value : tie.Need-mul-value Inv-loop μ-loop
-mul-value c = omega (arith, value-small c)
-
-add-value : tie.Need-add-value Inv-loop μ-loop
-add-value c = omega (arith, value-small c, is-bit c)
-
-add-at : tie.Need-add-at Inv-loop μ-loop
-add-at c =
-    let a = c .before .before .before .before .before .before .before .before .args in
-    omega (arith, bit-inside (read-payload c) (c .before .before .before .before .before .loop .at) _ _ (heads-rest c), length-payload (a .bytes .now) (a .count))
-
-add-k : tie.Need-add-k Inv-loop μ-loop
-add-k c = search needs
-
-loop-less : tie.Need-loop-less Inv-loop μ-loop
-loop-less c = search needs
-
-loop-again : tie.Need-loop-again Inv-loop μ-loop
-loop-again c =
-    let l = c .before .before .before .before .before .loop in
-    let p : 2 ^ (l .k + 1) ≡ 2 ^ l .k * 2 = rw add-one (pow-suc 2 (l .k)) in
-    (search needs, omega (arith, is-bit c), l .inv .2 ∙ read-step (l .value) _ (l .k) _ (l .at) (read-payload c) (c .before .before .before .before .loop-test .taken) (heads-rest c))
-
-enum-told : tie.Need-enum-told Inv-loop μ-loop
-enum-told c = search needs
-
-returns-2 : tie.Need-returns-2 Inv-loop μ-loop
-unfolding readAt
-returns-2 c =
-    let r = c .before .before in
-    let l = r .before .before .loop in
-    let e = r .before .before .before in
-    let a = e .before .before .args in
-    let m = bit-missing (payload (a .bytes .now) (a .count)) (l .at) (sym (r .read-bit .ensures) ∙ c .enum-told .given .1) in
-    simp (le-leb _ _ (e .if1 .left)) (sym (l .inv .2 ∙ read-end (l .value) (a .width) (l .k) (l .at) _ (r .before .loop-test .taken) m))
-
-returns-3 : tie.Need-returns-3 Inv-loop μ-loop
+returns-2 : tie.Need-returns-2
 unfolding readAt readOn
-returns-3 c =
-    let l = c .before .loop in
-    let e = c .before .before in
-    let w = e .before .before .args .width in
-    let z : w - l .k ≡ 0 = omega arith in
-    simp (le-leb _ _ (e .if1 .left)) (sym (l .inv .2 ∙ rw z))
+returns-2 c = rw (c .if2 .taken)
+
+missing : (s : List ℕ) (count place width : ℕ) → width ≤ 32 → min count (length s * 8) - place < width → Missing ≡ readAt (payload s count) place width
+missing s count place width h k =
+    let l = length-payload s count in
+    sym (missing-exactly (payload s count) place width .1 (h, omega arith))
+
+sub-more : tie.Need-sub-more
+sub-more c = search needs
+
+cast-more : tie.Need-cast-more
+cast-more c = search needs
+
+returns-3 : tie.Need-returns-3
+returns-3 c = let a = c .before .before .before .before .args in missing (a .bytes .now) (a .count) (a .place) (a .width) (omega arith) (omega arith)
+
+sub-if4 : tie.Need-sub-if4
+sub-if4 c = search needs
+
+returns-4 : tie.Need-returns-4
+returns-4 c = let a = c .before .before .before .before .before .args in missing (a .bytes .now) (a .count) (a .place) (a .width) (omega arith) (omega arith)
+
+add-last : tie.Need-add-last
+add-last c = search needs
+
+returns-5 : tie.Need-returns-5
+returns-5 c = let a = c .before .before .before .before .before .before .args in missing (a .bytes .now) (a .count) (a .place) (a .width) (omega arith) (omega arith)
+
+add-number : tie.Need-add-number
+add-number c = search needs
+
+number-requires : tie.Need-number-requires
+number-requires c κs = search needs
+
+sub-cut : tie.Need-sub-cut
+sub-cut c = search needs
+
+cut-requires : tie.Need-cut-requires
+cut-requires c κs = search needs
+
+-- the bytes from the one that holds the first bit to the one that holds the last, and the bits before and after cut off
+there : (s : List ℕ) (count place last width value : ℕ) → width ≤ 32 → last + 1 ≡ place + width → last < count →
+    take ((last / 8 + 1 - place / 8) * 8) (drop (place / 8 * 8) (bitsOf s)) ≡ bitsIn ((last / 8 + 1 - place / 8) * 8) value →
+    readAt (payload s count) place width ≡ Value (value / 2 ^ (7 - last % 8) % 2 ^ width)
+there s count place last width value w ends inside e =
+    let after = 7 - last % 8 in
+    let q : place / 8 * 8 + place % 8 ≡ place = omega arith in
+    let n : (last / 8 + 1 - place / 8) * 8 ≡ place % 8 + (width + after) = omega arith in
+    let d : drop (place % 8) (drop (place / 8 * 8) (bitsOf s)) ≡ drop place (bitsOf s) = drop-drop (place % 8) (place / 8 * 8) (bitsOf s) ∙ rw q in
+    let bits = cut-bits (drop (place / 8 * 8) (bitsOf s)) (place % 8) width after value (rw n at e) in
+    value-exactly s count place width _ .1 (w, mod-lt _ (pow-pos width), within-count s count place width (omega arith) ∙ ap (take width) (sym d) ∙ bits)
+
+returns-6 : tie.Need-returns-6
+returns-6 c =
+    let a = c .before .before .before .before .before .before .before .before .args in
+    sym (there (a .bytes .now) (a .count) (a .place) (a .place + (a .width - 1)) (a .width) (c .before .number .result) (omega arith) (omega arith) (omega arith) (c .before .number .ensures)
+    ∙ ap Value (sym (c .cut .ensures)))
 
 pub read-bits-spec : {M : Type 1} → statement M
 read-bits-spec =
     tie.close
     (tie.spec
-    Inv-loop
-    μ-loop
     returns
-    loop-holds
-    read-bit-requires
-    enum-known-bit
-    mul-value
-    add-value
-    add-at
-    add-k
-    loop-less
-    loop-again
-    enum-told
     returns-2
-    returns-3)
+    sub-more
+    cast-more
+    returns-3
+    sub-if4
+    returns-4
+    add-last
+    returns-5
+    add-number
+    number-requires
+    sub-cut
+    cut-requires
+    returns-6)
