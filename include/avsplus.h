@@ -2,7 +2,10 @@
  *
  * No call has a precondition beyond C's own: a pointer lent with a length points to that many elements, and a lent output
  * overlaps nothing else that is lent. A null pointer may be lent with length 0 only. No call allocates, keeps a pointer, or
- * writes past what it says. A refusal, and something not given, leave all lent memory as it was.
+ * writes past what it says. A refusal leaves all lent memory as it was.
+ *
+ * Numbers are written to lent memory from its start on, and the answer's count says how many; later ones stay. What is not
+ * given is not written, needs no room and is never FULL.
  */
 #ifndef AVSPLUS_H
 #define AVSPLUS_H
@@ -14,6 +17,9 @@
 #ifdef __cplusplus
 extern "C" {
 #endif
+
+/* The number of this interface, raised when it changes: compare it with what avsplus_version answers. */
+#define AVSPLUS_VERSION 1u
 
 /* A status: 0, or the number of a refusal. */
 enum {
@@ -40,20 +46,11 @@ enum {
 #define AVSPLUS_LONGEST_STREAM 16777216u
 #define AVSPLUS_LONGEST_PAYLOAD 65536u
 
-/* Words of a row, and of what the calls below hand over. */
-#define AVSPLUS_ROW_WORDS 3        /* code, offset of the start code, length of the body */
-#define AVSPLUS_HEADER_NUMBERS 14  /* profile, level, progressive, horizontal, vertical, chroma, precision, aspect, rate,
-                                      bit rate, low delay, buffer size, macroblock columns, macroblock rows */
-#define AVSPLUS_DISPLAY_NUMBERS 5  /* format, range, width, height, stereo */
-#define AVSPLUS_COLOUR_NUMBERS 3   /* primaries, transfer, matrix */
-#define AVSPLUS_COPYRIGHT_NUMBERS 4 /* flag, owner, original, copyright number */
-#define AVSPLUS_RATIO_NUMBERS 2    /* numerator, denominator */
-
 /* What a call answers. */
 typedef struct {
     uint32_t status;
-    size_t place; /* of a refused stream, the refusal's offset in it; 0 where the answer has no place */
-    size_t count; /* how many units, numbers or bits were handed over; 0 for a refusal and for what is not given */
+    size_t offset; /* of a refused stream, where in it the refusal stands; 0 where the answer has no offset */
+    size_t count;  /* how many units, numbers or bits there are; 0 for a refusal and for what is not given */
 } avsplus_answer;
 
 /* A part of a stream. */
@@ -62,11 +59,104 @@ typedef struct {
     size_t length;
 } avsplus_part;
 
+/* The number of the library's interface: it is AVSPLUS_VERSION where this header is the library's. */
+uint32_t avsplus_version(void);
+
+/* ── what is handed over ── */
+
+/* A row of filing: the index of each word in it, and how many words a row has. Row i begins at rows[AVSPLUS_ROW_WORDS * i]. */
+enum {
+    AVSPLUS_ROW_CODE = 0,
+    AVSPLUS_ROW_OFFSET = 1, /* of the start code */
+    AVSPLUS_ROW_LENGTH = 2, /* of the body */
+    AVSPLUS_ROW_WORDS = 3
+};
+
+/* A sequence header, by avsplus_sequence_header and avsplus_group: the index of each number, and how many there are. */
+enum {
+    AVSPLUS_HEADER_PROFILE = 0,
+    AVSPLUS_HEADER_LEVEL = 1,
+    AVSPLUS_HEADER_PROGRESSIVE = 2,
+    AVSPLUS_HEADER_HORIZONTAL_SIZE = 3,
+    AVSPLUS_HEADER_VERTICAL_SIZE = 4,
+    AVSPLUS_HEADER_CHROMA_FORMAT = 5,
+    AVSPLUS_HEADER_PRECISION = 6,
+    AVSPLUS_HEADER_ASPECT = 7,          /* for avsplus_display_ratio */
+    AVSPLUS_HEADER_FRAME_RATE_CODE = 8, /* for avsplus_frame_rate */
+    AVSPLUS_HEADER_BIT_RATE = 9,
+    AVSPLUS_HEADER_LOW_DELAY = 10,
+    AVSPLUS_HEADER_BUFFER_SIZE = 11,
+    AVSPLUS_HEADER_MACROBLOCK_COLUMNS = 12,
+    AVSPLUS_HEADER_MACROBLOCK_ROWS = 13,
+    AVSPLUS_HEADER_NUMBERS = 14
+};
+
+/* A group, by avsplus_group: its sequence header at the indices above, then its display extension, then that one's colour. */
+enum {
+    AVSPLUS_GROUP_DISPLAY_FORMAT = 14,
+    AVSPLUS_GROUP_DISPLAY_RANGE = 15,
+    AVSPLUS_GROUP_DISPLAY_WIDTH = 16,
+    AVSPLUS_GROUP_DISPLAY_HEIGHT = 17,
+    AVSPLUS_GROUP_DISPLAY_STEREO = 18,
+    AVSPLUS_GROUP_COLOUR_PRIMARIES = 19,
+    AVSPLUS_GROUP_COLOUR_TRANSFER = 20,
+    AVSPLUS_GROUP_COLOUR_MATRIX = 21
+};
+
+/* The counts of a group, which say what is given:
+ *
+ *     uint64_t n[AVSPLUS_GROUP_WITH_COLOUR];
+ *     avsplus_answer a = avsplus_group(stream, length, 0, n, AVSPLUS_GROUP_WITH_COLOUR);
+ *     if (a.status == AVSPLUS_DONE && a.count >= AVSPLUS_GROUP_WITH_DISPLAY)
+ *         width = n[AVSPLUS_GROUP_DISPLAY_WIDTH];
+ */
+enum {
+    AVSPLUS_GROUP_PLAIN = 14,
+    AVSPLUS_GROUP_WITH_DISPLAY = 19,
+    AVSPLUS_GROUP_WITH_COLOUR = 22 /* the most: with so many lent no group is FULL */
+};
+
+/* An extension, by avsplus_extension: its number, then a display extension and its colour, or a copyright extension. */
+enum {
+    AVSPLUS_EXTENSION_NUMBER = 0,
+    AVSPLUS_EXTENSION_DISPLAY_FORMAT = 1,
+    AVSPLUS_EXTENSION_DISPLAY_RANGE = 2,
+    AVSPLUS_EXTENSION_DISPLAY_WIDTH = 3,
+    AVSPLUS_EXTENSION_DISPLAY_HEIGHT = 4,
+    AVSPLUS_EXTENSION_DISPLAY_STEREO = 5,
+    AVSPLUS_EXTENSION_COLOUR_PRIMARIES = 6,
+    AVSPLUS_EXTENSION_COLOUR_TRANSFER = 7,
+    AVSPLUS_EXTENSION_COLOUR_MATRIX = 8,
+    AVSPLUS_EXTENSION_COPYRIGHT_FLAG = 1,
+    AVSPLUS_EXTENSION_COPYRIGHT_OWNER = 2,
+    AVSPLUS_EXTENSION_COPYRIGHT_ORIGINAL = 3,
+    AVSPLUS_EXTENSION_COPYRIGHT_NUMBER = 4
+};
+
+/* The counts of an extension, which say what it is. Its number does not: 2 is a display extension in a group's head only. */
+enum {
+    AVSPLUS_EXTENSION_OPAQUE = 1,
+    AVSPLUS_EXTENSION_COPYRIGHT = 5,
+    AVSPLUS_EXTENSION_DISPLAY = 6,
+    AVSPLUS_EXTENSION_WITH_COLOUR = 9 /* a display extension too; the most: with so many lent no extension is FULL */
+};
+
+/* A ratio, by avsplus_frame_rate and avsplus_display_ratio: the index of each number, and how many there are. */
+enum {
+    AVSPLUS_RATIO_NUMERATOR = 0,
+    AVSPLUS_RATIO_DENOMINATOR = 1,
+    AVSPLUS_RATIO_NUMBERS = 2
+};
+
 /* ── recordings ── */
 
-/* Files a stream. Done: count is its units, and rows[0 .. 3 * count) hold three words for each; later words stay.
- * Refused: the first refusal from the left with its place, all words stay. FULL, last of all, where words is less than three
- * times the units. */
+/* Checks a stream. Done: count is its units, so that filing it takes AVSPLUS_ROW_WORDS words for each. Refused as filing is,
+ * but never with FULL. */
+avsplus_answer avsplus_check(const uint8_t *stream, size_t length);
+
+/* Files a stream. Done: count is its units, and rows[0 .. AVSPLUS_ROW_WORDS * count) hold a row for each; later words stay.
+ * Refused: the first refusal from the left with its offset, all words stay. FULL, last of all, where words is less than
+ * AVSPLUS_ROW_WORDS times the units. */
 avsplus_answer avsplus_file(const uint8_t *stream, size_t length, uint32_t *rows, size_t words);
 
 /* Whether row i exists: rows holds it whole, and its body ends within the stream. Any words will do for rows. */
@@ -75,44 +165,30 @@ bool avsplus_row_exists(const uint8_t *stream, size_t length, const uint32_t *ro
 /* Where the body of row i lies in the stream: offset 0 and length 0 where there is no such row. */
 avsplus_part avsplus_row_body(const uint8_t *stream, size_t length, const uint32_t *rows, size_t words, size_t i);
 
-/* The sequence header of group g, counted from 0: AVSPLUS_HEADER_NUMBERS numbers, later ones stay. The stream's own refusal with
- * its place comes first, then NO ROW where it has no such group, then FULL where fewer numbers are lent. */
-avsplus_answer avsplus_group_header(const uint8_t *stream, size_t length, size_t g, uint64_t *numbers, size_t lent);
-
-/* The display extension of group g: AVSPLUS_DISPLAY_NUMBERS numbers, or done with count 0 where it is not given. Refused as the
- * header is. */
-avsplus_answer avsplus_group_display(const uint8_t *stream, size_t length, size_t g, uint64_t *numbers, size_t lent);
-
-/* The colour of group g's display extension: AVSPLUS_COLOUR_NUMBERS numbers, or done with count 0 where it is not given, as where
- * there is no display extension. Refused as the header is. */
-avsplus_answer avsplus_group_colour(const uint8_t *stream, size_t length, size_t g, uint64_t *numbers, size_t lent);
+/* Group g of a stream, counted from 0. Done: AVSPLUS_GROUP_PLAIN numbers, AVSPLUS_GROUP_WITH_DISPLAY where it has a display
+ * extension, AVSPLUS_GROUP_WITH_COLOUR where that has its colour; later ones stay. Refused with the stream's own refusal and
+ * its offset, then with NO ROW where it has no such group, then with FULL where fewer numbers are lent than it has; all stay.
+ * Each call checks the whole stream, so that the time to ask for each of many groups grows with the square of their number:
+ * file the stream once instead, and read headers and extensions by its rows. */
+avsplus_answer avsplus_group(const uint8_t *stream, size_t length, size_t g, uint64_t *numbers, size_t lent);
 
 /* ── bodies ── */
 
-/* A sequence header's body: AVSPLUS_HEADER_NUMBERS numbers, later ones stay. Refused with SHORT, MARKER, VALUE or STUFFING, or
- * with FULL where the body is good and fewer numbers are lent. */
+/* A sequence header's body. Done: AVSPLUS_HEADER_NUMBERS numbers, later ones stay. Refused with SHORT, MARKER, VALUE or
+ * STUFFING, or with FULL where the body is good and fewer numbers are lent; all stay. */
 avsplus_answer avsplus_sequence_header(const uint8_t *body, size_t length, uint64_t *numbers, size_t lent);
 
-/* An extension's body, in a group's head or after a picture header: 1 number, that of the extension. Refused as a header's body
- * is; number 2 is a display extension in a head only. */
+/* An extension's body: in_head says whether it stands in a group's head or after a picture header. Done:
+ * AVSPLUS_EXTENSION_DISPLAY numbers for a display extension or AVSPLUS_EXTENSION_WITH_COLOUR with its colour,
+ * AVSPLUS_EXTENSION_COPYRIGHT for a copyright extension, AVSPLUS_EXTENSION_OPAQUE for any other; later ones stay. Refused with
+ * SHORT, MARKER, VALUE or STUFFING, or with FULL where the body is good and fewer numbers are lent than it has; all stay. */
 avsplus_answer avsplus_extension(const uint8_t *body, size_t length, bool in_head, uint64_t *numbers, size_t lent);
 
-/* The same body as a display extension: AVSPLUS_DISPLAY_NUMBERS numbers, or done with count 0 where it is good and another
- * extension. */
-avsplus_answer avsplus_display(const uint8_t *body, size_t length, bool in_head, uint64_t *numbers, size_t lent);
-
-/* The colour of the same body as a display extension: AVSPLUS_COLOUR_NUMBERS numbers, or done with count 0 where it is not
- * given. */
-avsplus_answer avsplus_display_colour(const uint8_t *body, size_t length, bool in_head, uint64_t *numbers, size_t lent);
-
-/* The same body as a copyright extension: AVSPLUS_COPYRIGHT_NUMBERS numbers, or done with count 0 where it is good and another
- * extension. */
-avsplus_answer avsplus_copyright(const uint8_t *body, size_t length, bool in_head, uint64_t *numbers, size_t lent);
-
-/* The frame rate of a code: AVSPLUS_RATIO_NUMBERS numbers, or done with count 0 for a code that gives none. */
+/* The frame rate of a code: AVSPLUS_RATIO_NUMBERS numbers, later ones stay, or done with count 0 for a code that gives none.
+ * Refused with FULL alone; all stay. */
 avsplus_answer avsplus_frame_rate(uint32_t code, uint64_t *numbers, size_t lent);
 
-/* The display ratio of an aspect: AVSPLUS_RATIO_NUMBERS numbers, or done with count 0 for an aspect that gives none. */
+/* The display ratio of an aspect, in the same way. */
 avsplus_answer avsplus_display_ratio(uint32_t aspect, uint64_t *numbers, size_t lent);
 
 /* ── payloads ── */
@@ -210,7 +286,7 @@ avsplus_plain_bin avsplus_stuffing(const uint8_t *bytes, size_t length, size_t b
 
 /* ── start codes ── */
 
-/* The first place from `from` on where 00 00 01 stands, or the stream's length. */
+/* The first offset from `from` on where 00 00 01 stands, or the stream's length. */
 size_t avsplus_next_start_code(const uint8_t *stream, size_t length, size_t from);
 
 /* The kinds of unit. */

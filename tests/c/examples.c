@@ -1,13 +1,18 @@
-/* The examples of document 01 through the C header, and null pointers with length 0: each line prints what it is, and exit 1 where
- * one differs. */
+/* The examples of document 01 through the C header, groups and extensions with each of their counts, and null pointers with length 0:
+ * each line prints what it is, and exit 1 where one differs. */
 #include <stdio.h>
 #include <string.h>
 
 #include "avsplus.h"
 
 #define HEADER 0x48, 0x40, 0x0F, 0x00, 0x21, 0xC2, 0x4C, 0xC4, 0xE2, 0x08, 0x00, 0x20, 0x02, 0x00, 0x80
+#define REST 0, 0, 1, 0xB3, 0x80, 0, 0, 1, 0x00, 0x80, 0, 0, 1, 0xB1
+#define DISPLAY 0x22, 0x0F, 0x01, 0x10, 0xE0, 0x80
+#define COLOURED 0x23, 0x85, 0x01, 0x00, 0x8F, 0x01, 0x10, 0xE1, 0x80
 
-static const uint8_t stream[33] = {0, 0, 1, 0xB0, HEADER, 0, 0, 1, 0xB3, 0x80, 0, 0, 1, 0x00, 0x80, 0, 0, 1, 0xB1};
+static const uint8_t stream[33] = {0, 0, 1, 0xB0, HEADER, REST};
+static const uint8_t with_display[43] = {0, 0, 1, 0xB0, HEADER, 0, 0, 1, 0xB5, DISPLAY, REST};
+static const uint8_t with_colour[46] = {0, 0, 1, 0xB0, HEADER, 0, 0, 1, 0xB5, COLOURED, REST};
 static int differing = 0;
 
 static void expect(const char *what, bool holds) {
@@ -15,8 +20,8 @@ static void expect(const char *what, bool holds) {
     differing += !holds;
 }
 
-static bool is(avsplus_answer a, uint32_t status, size_t place, size_t count) {
-    return a.status == status && a.place == place && a.count == count;
+static bool is(avsplus_answer a, uint32_t status, size_t offset, size_t count) {
+    return a.status == status && a.offset == offset && a.count == count;
 }
 
 static bool all(const uint32_t *words, size_t n, uint32_t value) {
@@ -55,16 +60,88 @@ static void filing(void) {
     expect("no row 4", !avsplus_row_exists(stream, sizeof stream, rows, 12, 4) && body.offset == 0 && body.length == 0);
 }
 
+static void checking(void) {
+    expect("the header's version is the library's", avsplus_version() == AVSPLUS_VERSION);
+    expect("1: checked, 4 units", is(avsplus_check(stream, sizeof stream), 0, 0, 4));
+    expect("3: UNENDED at 29, checked", is(avsplus_check(stream, 29), 11, 29, 0));
+    expect("5: NO CODE, checked", is(avsplus_check(NULL, 0), 1, 0, 0));
+}
+
+#define UNTOUCHED 7777
+#define ROOM 24
+
+/* Asks for a group, or for an extension's body in a head or after a picture header, with room for so many numbers. */
+typedef avsplus_answer question(const uint8_t *bytes, size_t length, uint64_t *numbers, size_t lent);
+
+static avsplus_answer group(const uint8_t *bytes, size_t length, uint64_t *numbers, size_t lent) {
+    return avsplus_group(bytes, length, 0, numbers, lent);
+}
+
+static avsplus_answer in_head(const uint8_t *bytes, size_t length, uint64_t *numbers, size_t lent) {
+    return avsplus_extension(bytes, length, true, numbers, lent);
+}
+
+static avsplus_answer after_picture(const uint8_t *bytes, size_t length, uint64_t *numbers, size_t lent) {
+    return avsplus_extension(bytes, length, false, numbers, lent);
+}
+
+/* Whether exactly `count` numbers are written and wanted, whatever the room: fewer are FULL and leave all, later ones stay. */
+static bool gives(question ask, const uint8_t *bytes, size_t length, size_t count, uint64_t *numbers) {
+    for (size_t lent = 0; lent <= ROOM; lent++) {
+        for (size_t i = 0; i < ROOM; i++) {
+            numbers[i] = UNTOUCHED;
+        }
+        avsplus_answer a = ask(bytes, length, lent == 0 ? NULL : numbers, lent);
+        size_t written = count <= lent ? count : 0;
+        if (!(written ? is(a, AVSPLUS_DONE, 0, count) : is(a, AVSPLUS_FULL, 0, 0))) {
+            return false;
+        }
+        for (size_t i = 0; i < ROOM; i++) {
+            if ((numbers[i] == UNTOUCHED) != (written <= i)) {
+                return false;
+            }
+        }
+    }
+    return true;
+}
+
+static bool is_header(const uint64_t *n) {
+    return n[AVSPLUS_HEADER_HORIZONTAL_SIZE] == 1920 && n[AVSPLUS_HEADER_VERTICAL_SIZE] == 1080 && n[AVSPLUS_HEADER_BIT_RATE] == 20000 &&
+           n[AVSPLUS_HEADER_MACROBLOCK_COLUMNS] == 120 && n[AVSPLUS_HEADER_MACROBLOCK_ROWS] == 68;
+}
+
 static void groups(void) {
-    uint64_t h[AVSPLUS_HEADER_NUMBERS], d[AVSPLUS_DISPLAY_NUMBERS] = {7, 7, 7, 7, 7};
-    avsplus_answer a = avsplus_group_header(stream, sizeof stream, 0, h, AVSPLUS_HEADER_NUMBERS);
-    expect("header H", is(a, 0, 0, 14) && h[3] == 1920 && h[4] == 1080 && h[9] == 20000 && h[12] == 120 && h[13] == 68);
-    a = avsplus_group_display(stream, sizeof stream, 0, d, AVSPLUS_DISPLAY_NUMBERS);
-    expect("display extension not given, the lent numbers stay", is(a, 0, 0, 0) && d[0] == 7 && d[4] == 7);
-    expect("NO ROW for group 1", is(avsplus_group_header(stream, sizeof stream, 1, h, 14), 16, 0, 0));
-    expect("FULL for 13 numbers", is(avsplus_group_header(stream, sizeof stream, 0, h, 13), 12, 0, 0));
-    a = avsplus_frame_rate((uint32_t)h[8], d, AVSPLUS_DISPLAY_NUMBERS);
-    expect("frame rate 25/1", is(a, 0, 0, 2) && d[0] == 25 && d[1] == 1 && d[2] == 7);
+    uint64_t n[ROOM];
+    expect("a group without a display extension", gives(group, stream, sizeof stream, AVSPLUS_GROUP_PLAIN, n) && is_header(n));
+    avsplus_answer a = avsplus_frame_rate((uint32_t)n[AVSPLUS_HEADER_FRAME_RATE_CODE], n, ROOM);
+    expect("frame rate 25/1", is(a, 0, 0, 2) && n[AVSPLUS_RATIO_NUMERATOR] == 25 && n[AVSPLUS_RATIO_DENOMINATOR] == 1);
+    expect("a group with one", gives(group, with_display, sizeof with_display, AVSPLUS_GROUP_WITH_DISPLAY, n) && is_header(n));
+    expect("its display extension", n[AVSPLUS_GROUP_DISPLAY_FORMAT] == 1 && n[AVSPLUS_GROUP_DISPLAY_RANGE] == 0 && n[AVSPLUS_GROUP_DISPLAY_WIDTH] == 1920 &&
+                                        n[AVSPLUS_GROUP_DISPLAY_HEIGHT] == 1080 && n[AVSPLUS_GROUP_DISPLAY_STEREO] == 0);
+    expect("a group with its colour", gives(group, with_colour, sizeof with_colour, AVSPLUS_GROUP_WITH_COLOUR, n) && is_header(n));
+    expect("its display extension", n[AVSPLUS_GROUP_DISPLAY_FORMAT] == 1 && n[AVSPLUS_GROUP_DISPLAY_RANGE] == 1 && n[AVSPLUS_GROUP_DISPLAY_WIDTH] == 1920 &&
+                                        n[AVSPLUS_GROUP_DISPLAY_HEIGHT] == 1080 && n[AVSPLUS_GROUP_DISPLAY_STEREO] == 1);
+    expect("its colour", n[AVSPLUS_GROUP_COLOUR_PRIMARIES] == 10 && n[AVSPLUS_GROUP_COLOUR_TRANSFER] == 2 && n[AVSPLUS_GROUP_COLOUR_MATRIX] == 1);
+    expect("NO ROW for group 1, whatever the room", is(avsplus_group(stream, sizeof stream, 1, n, ROOM), 16, 0, 0) && is(avsplus_group(stream, sizeof stream, 1, NULL, 0), 16, 0, 0));
+    expect("a refused stream's group", is(avsplus_group(stream, 29, 0, NULL, 0), 11, 29, 0));
+}
+
+static void extensions(void) {
+    static const uint8_t display[6] = {DISPLAY}, coloured[9] = {COLOURED}, opaque[2] = {0xB5, 0x00};
+    static const uint8_t copyright[12] = {0x48, 0x3C, 0x04, 0x04, 0x8D, 0x2A, 0xCF, 0x13, 0x6B, 0xCD, 0xEF, 0x80};
+    uint64_t n[ROOM];
+    expect("a display extension", gives(in_head, display, 6, AVSPLUS_EXTENSION_DISPLAY, n) && n[AVSPLUS_EXTENSION_NUMBER] == 2);
+    expect("its numbers", n[AVSPLUS_EXTENSION_DISPLAY_FORMAT] == 1 && n[AVSPLUS_EXTENSION_DISPLAY_RANGE] == 0 && n[AVSPLUS_EXTENSION_DISPLAY_WIDTH] == 1920 &&
+                              n[AVSPLUS_EXTENSION_DISPLAY_HEIGHT] == 1080 && n[AVSPLUS_EXTENSION_DISPLAY_STEREO] == 0);
+    expect("one with its colour", gives(in_head, coloured, 9, AVSPLUS_EXTENSION_WITH_COLOUR, n) && n[AVSPLUS_EXTENSION_NUMBER] == 2);
+    expect("its numbers", n[AVSPLUS_EXTENSION_COLOUR_PRIMARIES] == 10 && n[AVSPLUS_EXTENSION_COLOUR_TRANSFER] == 2 && n[AVSPLUS_EXTENSION_COLOUR_MATRIX] == 1);
+    expect("after a picture header both are opaque", gives(after_picture, display, 6, AVSPLUS_EXTENSION_OPAQUE, n) &&
+                                                         gives(after_picture, coloured, 9, AVSPLUS_EXTENSION_OPAQUE, n) && n[AVSPLUS_EXTENSION_NUMBER] == 2);
+    expect("an opaque extension", gives(in_head, opaque, 2, AVSPLUS_EXTENSION_OPAQUE, n) && n[AVSPLUS_EXTENSION_NUMBER] == 11);
+    expect("a copyright extension", gives(in_head, copyright, 12, AVSPLUS_EXTENSION_COPYRIGHT, n) && gives(after_picture, copyright, 12, AVSPLUS_EXTENSION_COPYRIGHT, n));
+    expect("its numbers", n[AVSPLUS_EXTENSION_NUMBER] == 4 && n[AVSPLUS_EXTENSION_COPYRIGHT_FLAG] == 1 && n[AVSPLUS_EXTENSION_COPYRIGHT_OWNER] == 7 &&
+                              n[AVSPLUS_EXTENSION_COPYRIGHT_ORIGINAL] == 1 && n[AVSPLUS_EXTENSION_COPYRIGHT_NUMBER] == 0x0123456789ABCDEF);
+    expect("a short one, whatever the room", is(avsplus_extension(copyright, 11, true, n, ROOM), 6, 0, 0) && is(avsplus_extension(copyright, 11, true, NULL, 0), 6, 0, 0));
 }
 
 static void payloads(void) {
@@ -110,8 +187,7 @@ static void nothing(void) {
     expect("null rows: FULL", is(avsplus_file(stream, sizeof stream, NULL, 0), 12, 0, 0));
     expect("null stream and rows: NO CODE", is(avsplus_file(NULL, 0, NULL, 0), 1, 0, 0));
     expect("null rows hold no row", !avsplus_row_exists(stream, sizeof stream, NULL, 0, 0) && avsplus_row_body(NULL, 0, NULL, 0, 0).length == 0);
-    expect("null numbers: FULL for a header", is(avsplus_group_header(stream, sizeof stream, 0, NULL, 0), 12, 0, 0));
-    expect("null numbers: a display extension not given", is(avsplus_group_display(stream, sizeof stream, 0, NULL, 0), 0, 0, 0));
+    expect("null numbers: FULL for a group", is(avsplus_group(stream, sizeof stream, 0, NULL, 0), 12, 0, 0));
     expect("null body and numbers: SHORT", is(avsplus_sequence_header(NULL, 0, NULL, 0), 6, 0, 0) && is(avsplus_extension(NULL, 0, true, NULL, 0), 6, 0, 0));
     expect("null numbers: FULL for a frame rate, and none given", is(avsplus_frame_rate(1, NULL, 0), 12, 0, 0) && is(avsplus_frame_rate(0, NULL, 0), 0, 0, 0));
     expect("null output: FULL, and nothing of nothing", is(avsplus_remove_escapes(stream, 1, NULL, 0), 12, 0, 0) && is(avsplus_remove_escapes(NULL, 0, NULL, 0), 0, 0, 0));
@@ -121,7 +197,9 @@ static void nothing(void) {
 
 int main(void) {
     filing();
+    checking();
     groups();
+    extensions();
     payloads();
     bins();
     nothing();

@@ -53,3 +53,9 @@ map-done f (refused n carried) b e = not-done e
 -- a map that can be undone is one-to-one
 pub undone : {A B : Type 0} (says : A → B) (undo : B → A) → ((a : A) → undo (says a) ≡ a) → OneToOne says
 undone says undo is a b e = sym (is a) ∙ ap undo e ∙ is b
+
+-- ── an answer of one arm ──
+
+-- it is that of what was asked, since the arm's value is what was asked for and says so
+pub arm-answers : {A B C : Type 0} (answer : B → C) (says : A → B) {x v : A} {o : B} {r : C} → x ≡ v → says x ≡ o → r ≡ answer (says v) → r ≡ answer o
+arm-answers answer says e s h = h ∙ ap (λ x. answer (says x)) (sym e) ∙ ap answer s

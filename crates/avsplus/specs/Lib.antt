@@ -1,4 +1,2 @@
--- What C and Rust are told: an answer's status and counts, the numbers that are handed over, and the answers of payloads.
-pub mod Answers
-pub mod Numbers
-pub mod Payloads
+-- The interface that C and Rust call.
+pub mod Interface

@@ -1,39 +1,22 @@
-// What C and Rust call. Each function asks the library and hands its answer over: a status, which is document 01's number, with
-// numbers that are always there by value, and numbers that may not be there in lent memory.
-use aec::Decoded;
-use aec::DecodedPair;
-use aec::Started;
+// What C and Rust call: a function of the library each, under C's name.
 use aec::State;
-use aec::Stepped;
 use contexts::Context;
-use filing::FilingAnswer;
-use groups::Display;
-use groups::GroupAnswer;
-use layout::Colour;
-use layout::CopyrightExtension;
-use layout::DisplayExtension;
-use layout::ExtensionAnswer;
-use layout::HeaderAnswer;
-use layout::Place;
-use layout::SequenceHeader;
-use payload::Golomb;
-use payload::Removed;
-use payload::SignedGolomb;
-use ratios::Ratio;
-use startcode::Kind;
-use startcode::UnitKind;
+use marked::Begun;
+use marked::Bin;
+use marked::Number;
+use marked::PairBin;
+use marked::PlainBin;
+use marked::SignedNumber;
+use statuses::Answer;
+use statuses::Part;
 ghost use mathlib.Core.Path.{_≡_};
-ghost use mathlib.Core.List.{[], _∷_};
-ghost use Prim.Native.Nat.{_<_};
 ghost use lib.ListN.{length};
-ghost use Rattle.answers.specs.Answers.{Outcome, done, refused, mapDone, NO-ROW};
+ghost use Rattle.answers.specs.Answers.{done, mapDone};
 ghost use Rattle.startcode.specs.Kinds.{kindOf};
 ghost use Rattle.startcode.specs.Prefix.{nextPrefix};
-ghost use Rattle.layout.specs.Answers as bodies;
-ghost use Rattle.layout.specs.Reader as reader;
+ghost use Rattle.bodies.specs.Reader as reader;
 ghost use Rattle.ratios.specs.Ratios.{frameRate, displayRatio};
-ghost use Rattle.grammar.specs.Reader.{filingInto};
-ghost use Rattle.filing.specs.Filing as filing;
+ghost use Rattle.grammar.specs.Reader.{said, walk, filingInto};
 ghost use Rattle.filing.specs.Filing.{wordsAfter};
 ghost use Rattle.filing.specs.Reader.{filed};
 ghost use Rattle.rows.specs.Rows.{rowExists, existing};
@@ -42,263 +25,18 @@ ghost use Rattle.payload.specs.Escape.{removal, outputAfter};
 ghost use Rattle.payload.specs.Reader.{golomb, signedGolomb};
 ghost use Rattle.contexts.specs.Contexts.{freshContext};
 ghost use Rattle.aec.specs.Bins.{startOf, bypassOf, stuffingOf, decodeOf, decodePairOf};
-ghost use Rattle.aec.specs.Says.{refusalNumber, steppedSays};
-ghost use Rattle.avsplus.specs.Answers.{counted, answered, after, filedAnswer, partAt, kindNumber, kindAnswer};
-ghost use Rattle.avsplus.specs.Numbers.{headerNumbers, displayNumbers, colourNumbers, copyrightNumbers, ratioNumbers, placeFor, numberOf, displayOf, colourOf, copyrightOf, shownNumbers, shownColour, groupHeader, groupDisplay, groupColour};
-ghost use Rattle.avsplus.specs.Payloads.{numberAnswer, signedAnswer, begunAnswer, plainAnswer, binAnswer, pairAnswer};
+ghost use Rattle.statuses.specs.Answers.{counted, filedAnswer, partAt, kindAnswer};
+ghost use Rattle.handover.specs.Answers.{answered, after};
+ghost use Rattle.handover.specs.Numbers.{headerNumbers, ratioNumbers, scopeFor, extensionNumbers, groupNumbers};
+ghost use Rattle.marked.specs.Payloads.{numberAnswer, signedAnswer, begunAnswer, plainAnswer, binAnswer, pairAnswer};
+ghost use Rattle.avsplus.specs.Interface.{version};
 
-// What a call answers: a status, the place of a stream's refusal, and how many units, numbers or bits were handed over.
-#[repr(C)]
-pub struct Answer {
-    pub status: u32,
-    pub place: usize,
-    pub count: usize,
-}
-
-// A part of a stream.
-#[repr(C)]
-pub struct Part {
-    pub offset: usize,
-    pub length: usize,
-}
-
-// An Exp-Golomb number with the place after it.
-#[repr(C)]
-pub struct Number {
-    pub status: u32,
-    pub number: u32,
-    pub place: usize,
-}
-
-#[repr(C)]
-pub struct SignedNumber {
-    pub status: u32,
-    pub number: i32,
-    pub place: usize,
-}
-
-#[repr(C)]
-pub struct Begun {
-    pub status: u32,
-    pub state: State,
-}
-
-// A bin of no context, of one and of two, with what follows it.
-#[repr(C)]
-pub struct PlainBin {
-    pub status: u32,
-    pub bin: u32,
-    pub state: State,
-}
-
-#[repr(C)]
-pub struct Bin {
-    pub status: u32,
-    pub bin: u32,
-    pub state: State,
-    pub context: Context,
-}
-
-#[repr(C)]
-pub struct PairBin {
-    pub status: u32,
-    pub bin: u32,
-    pub state: State,
-    pub first: Context,
-    pub second: Context,
-}
-
-// In place of a number, a signed number and a bin that are not there.
-const NO_NUMBER: u32 = 0xFFFFFFFF;
-
-const NO_SIGNED_NUMBER: i32 = -2147483648;
-
-const NO_BIN: u32 = 2;
-
-// ── statuses ──
-
-fn layout_number(why: layout::Reason) -> u32
-    ensures { λ r. ⌜ r ≡ bodies.reasonNumber why ⌝ }
+// The number of this interface.
+#[no_mangle]
+pub extern "C" fn avsplus_version() -> u32
+    ensures { λ r. ⌜ r ≡ version ⌝ }
 {
-    match why {
-        layout::Reason::Short => 6,
-        layout::Reason::Marker => 7,
-        layout::Reason::Value => 8,
-        layout::Reason::Stuffing => 9,
-    }
-}
-
-fn filing_number(why: filing::Reason) -> u32
-    ensures { λ r. ⌜ r ≡ filing.reasonNumber why ⌝ }
-{
-    match why {
-        filing::Reason::NoCode => 1,
-        filing::Reason::Cut => 2,
-        filing::Reason::Overlap => 3,
-        filing::Reason::Unknown => 4,
-        filing::Reason::OutOfPlace => 5,
-        filing::Reason::Short => 6,
-        filing::Reason::Marker => 7,
-        filing::Reason::Value => 8,
-        filing::Reason::Stuffing => 9,
-        filing::Reason::Twice => 10,
-        filing::Reason::Unended => 11,
-        filing::Reason::Full => 12,
-        filing::Reason::TooLong => 13,
-    }
-}
-
-fn bin_number(why: aec::Refusal) -> u32
-    ensures { λ r. ⌜ r ≡ refusalNumber why ⌝ }
-{
-    match why {
-        aec::Refusal::TooLong => 13,
-        aec::Refusal::BadState => 15,
-        aec::Refusal::PayloadOut => 14,
-    }
-}
-
-// ── numbers into lent memory ──
-
-fn long(x: u32) -> u64
-    ensures { λ r. ⌜ r ≡ x ⌝ }
-{
-    x as u64
-}
-
-// The numbers are copied where there is room for all, and FULL is answered where there is not.
-fn hand_over(values: &[u64], numbers: &mut [u64]) -> Answer
-    ensures answer { λ r. ⌜ r ≡ answered (done (now (values .entry))) (now (numbers .entry)) ⌝ }
-    ensures numbers { λ r. ⌜ now (numbers .exit) ≡ after (done (now (values .entry))) (now (numbers .entry)) ⌝ }
-{
-    let n = values.len();
-    if numbers.len() < n {
-        return Answer {
-            status: 12,
-            place: 0,
-            count: 0,
-        };
-    }
-    let mut i: usize = 0;
-    while i < n {
-        numbers[i] = values[i];
-        i += 1;
-    }
-    Answer {
-        status: 0,
-        place: 0,
-        count: n,
-    }
-}
-
-fn not_given() -> Answer
-    ensures { λ r. ⌜ r ≡ counted (done 0) ⌝ }
-{
-    Answer {
-        status: 0,
-        place: 0,
-        count: 0,
-    }
-}
-
-fn refused_body(why: layout::Reason) -> Answer
-    ensures { λ r. ⌜ r ≡ counted (refused (bodies.reasonNumber why) []) ⌝ }
-{
-    Answer {
-        status: layout_number(why),
-        place: 0,
-        count: 0,
-    }
-}
-
-fn refused_stream(why: filing::Refusal) -> Answer
-    ensures { λ r. ⌜ r ≡ counted (refused (filing.reasonNumber (why .reason)) (why .offset ∷ [])) ⌝ }
-{
-    let reason = why.reason;
-    Answer {
-        status: filing_number(reason),
-        place: why.offset,
-        count: 0,
-    }
-}
-
-fn hand_header(h: SequenceHeader, numbers: &mut [u64]) -> Answer
-    ensures answer { λ r. ⌜ r ≡ answered (done (headerNumbers h)) (now (numbers .entry)) ⌝ }
-    ensures numbers { λ r. ⌜ now (numbers .exit) ≡ after (done (headerNumbers h)) (now (numbers .entry)) ⌝ }
-{
-    let values = [
-        long(h.profile),
-        long(h.level),
-        long(h.progressive),
-        long(h.horizontal),
-        long(h.vertical),
-        long(h.chroma),
-        long(h.precision),
-        long(h.aspect),
-        long(h.rate),
-        long(h.bitrate),
-        long(h.delay),
-        long(h.buffer),
-        long(macroblocks::macroblock_columns(h)),
-        long(macroblocks::macroblock_rows(h)),
-    ];
-    hand_over(&values, numbers)
-}
-
-fn hand_display(d: DisplayExtension, numbers: &mut [u64]) -> Answer
-    ensures answer { λ r. ⌜ r ≡ answered (done (displayNumbers d)) (now (numbers .entry)) ⌝ }
-    ensures numbers { λ r. ⌜ now (numbers .exit) ≡ after (done (displayNumbers d)) (now (numbers .entry)) ⌝ }
-{
-    let values = [
-        long(d.format),
-        long(d.range),
-        long(d.width),
-        long(d.height),
-        long(d.stereo),
-    ];
-    hand_over(&values, numbers)
-}
-
-fn hand_colour(colour: Colour, numbers: &mut [u64]) -> Answer
-    ensures answer { λ r. ⌜ r ≡ answered (done (colourNumbers colour)) (now (numbers .entry)) ⌝ }
-    ensures numbers { λ r. ⌜ now (numbers .exit) ≡ after (done (colourNumbers colour)) (now (numbers .entry)) ⌝ }
-{
-    match colour {
-        Colour::Given(primaries, transfer, matrix) => {
-            let values = [long(primaries), long(transfer), long(matrix)];
-            hand_over(&values, numbers)
-        }
-        Colour::NotGiven => not_given(),
-    }
-}
-
-fn hand_copyright(c: CopyrightExtension, numbers: &mut [u64]) -> Answer
-    ensures answer { λ r. ⌜ r ≡ answered (done (copyrightNumbers c)) (now (numbers .entry)) ⌝ }
-    ensures numbers { λ r. ⌜ now (numbers .exit) ≡ after (done (copyrightNumbers c)) (now (numbers .entry)) ⌝ }
-{
-    let values = [long(c.flag), long(c.owner), long(c.original), c.number];
-    hand_over(&values, numbers)
-}
-
-fn hand_ratio(ratio: Ratio, numbers: &mut [u64]) -> Answer
-    ensures answer { λ r. ⌜ r ≡ answered (done (ratioNumbers ratio)) (now (numbers .entry)) ⌝ }
-    ensures numbers { λ r. ⌜ now (numbers .exit) ≡ after (done (ratioNumbers ratio)) (now (numbers .entry)) ⌝ }
-{
-    match ratio {
-        Ratio::Given(numerator, denominator) => {
-            let values = [long(numerator), long(denominator)];
-            hand_over(&values, numbers)
-        }
-        Ratio::NotGiven => not_given(),
-    }
-}
-
-fn hand_number(number: u32, numbers: &mut [u64]) -> Answer
-    ensures answer { λ r. ⌜ r ≡ answered (done (number ∷ [])) (now (numbers .entry)) ⌝ }
-    ensures numbers { λ r. ⌜ now (numbers .exit) ≡ after (done (number ∷ [])) (now (numbers .entry)) ⌝ }
-{
-    let values = [long(number)];
-    hand_over(&values, numbers)
+    1
 }
 
 // ── recordings ──
@@ -309,14 +47,15 @@ pub extern "C" fn avsplus_file(stream: &[u8], rows: &mut [u32]) -> Answer
     ensures answer { λ r. ⌜ r ≡ filedAnswer (filed (now (stream .entry)) (length (now (rows .entry)))) ⌝ }
     ensures words { λ r. ⌜ now (rows .exit) ≡ wordsAfter (filingInto (now (stream .entry)) (length (now (rows .entry)))) (now (rows .entry)) ⌝ }
 {
-    match filing::file(stream, rows) {
-        FilingAnswer::Filed(totals) => Answer {
-            status: 0,
-            place: 0,
-            count: totals.units,
-        },
-        FilingAnswer::Refused(why) => refused_stream(why),
-    }
+    statuses::file(stream, rows)
+}
+
+// The units of a stream, or its refusal, with no row lent.
+#[no_mangle]
+pub extern "C" fn avsplus_check(stream: &[u8]) -> Answer
+    ensures { λ r. ⌜ r ≡ counted (said length (walk (now (stream .entry)))) ⌝ }
+{
+    statuses::check(stream)
 }
 
 // Whether row i exists.
@@ -327,99 +66,21 @@ pub extern "C" fn avsplus_row_exists(stream: &[u8], rows: &[u32], i: usize) -> b
     rows::row_exists(stream, rows, i)
 }
 
-fn wide(x: u32) -> usize
-    ensures { λ r. ⌜ (r ≡ x) × (r < 4294967296) ⌝ }
-{
-    x as usize
-}
-
 // Where the body of row i lies in the stream.
 #[no_mangle]
 pub extern "C" fn avsplus_row_body(stream: &[u8], rows: &[u32], i: usize) -> Part
     ensures { λ r. ⌜ r ≡ partAt (existing (now (stream .entry)) (now (rows .entry)) i) ⌝ }
 {
-    if rows::row_exists(stream, rows, i) {
-        let offset = wide(rows[i * 3 + 1]);
-        let length = wide(rows[i * 3 + 2]);
-        Part {
-            offset: offset + 4,
-            length: length,
-        }
-    } else {
-        Part {
-            offset: 0,
-            length: 0,
-        }
-    }
+    statuses::row_body(stream, rows, i)
 }
 
-fn no_group() -> Answer
-    ensures { λ r. ⌜ r ≡ counted (refused NO-ROW []) ⌝ }
-{
-    Answer {
-        status: 16,
-        place: 0,
-        count: 0,
-    }
-}
-
-fn hand_shown(display: Display, numbers: &mut [u64]) -> Answer
-    ensures answer { λ r. ⌜ r ≡ answered (done (shownNumbers display)) (now (numbers .entry)) ⌝ }
-    ensures numbers { λ r. ⌜ now (numbers .exit) ≡ after (done (shownNumbers display)) (now (numbers .entry)) ⌝ }
-{
-    match display {
-        Display::Given(d) => hand_display(d, numbers),
-        Display::NotGiven => not_given(),
-    }
-}
-
-fn hand_shown_colour(display: Display, numbers: &mut [u64]) -> Answer
-    ensures answer { λ r. ⌜ r ≡ answered (done (shownColour display)) (now (numbers .entry)) ⌝ }
-    ensures numbers { λ r. ⌜ now (numbers .exit) ≡ after (done (shownColour display)) (now (numbers .entry)) ⌝ }
-{
-    match display {
-        Display::Given(d) => hand_colour_of(d, numbers),
-        Display::NotGiven => not_given(),
-    }
-}
-
-// The sequence header of group g.
+// Group g: its sequence header, and its display extension where that is given.
 #[no_mangle]
-pub extern "C" fn avsplus_group_header(stream: &[u8], g: usize, numbers: &mut [u64]) -> Answer
-    ensures answer { λ r. ⌜ r ≡ answered (mapDone groupHeader (groupAt (now (stream .entry)) g)) (now (numbers .entry)) ⌝ }
-    ensures numbers { λ r. ⌜ now (numbers .exit) ≡ after (mapDone groupHeader (groupAt (now (stream .entry)) g)) (now (numbers .entry)) ⌝ }
+pub extern "C" fn avsplus_group(stream: &[u8], g: usize, numbers: &mut [u64]) -> Answer
+    ensures answer { λ r. ⌜ r ≡ answered (mapDone groupNumbers (groupAt (now (stream .entry)) g)) (now (numbers .entry)) ⌝ }
+    ensures numbers { λ r. ⌜ now (numbers .exit) ≡ after (mapDone groupNumbers (groupAt (now (stream .entry)) g)) (now (numbers .entry)) ⌝ }
 {
-    match groups::group_at(stream, g) {
-        GroupAnswer::Group(header, _) => hand_header(header, numbers),
-        GroupAnswer::NoRow => no_group(),
-        GroupAnswer::Refused(why) => refused_stream(why),
-    }
-}
-
-// The display extension of group g, given or not given.
-#[no_mangle]
-pub extern "C" fn avsplus_group_display(stream: &[u8], g: usize, numbers: &mut [u64]) -> Answer
-    ensures answer { λ r. ⌜ r ≡ answered (mapDone groupDisplay (groupAt (now (stream .entry)) g)) (now (numbers .entry)) ⌝ }
-    ensures numbers { λ r. ⌜ now (numbers .exit) ≡ after (mapDone groupDisplay (groupAt (now (stream .entry)) g)) (now (numbers .entry)) ⌝ }
-{
-    match groups::group_at(stream, g) {
-        GroupAnswer::Group(_, display) => hand_shown(display, numbers),
-        GroupAnswer::NoRow => no_group(),
-        GroupAnswer::Refused(why) => refused_stream(why),
-    }
-}
-
-// The colour of group g's display extension, given or not given.
-#[no_mangle]
-pub extern "C" fn avsplus_group_colour(stream: &[u8], g: usize, numbers: &mut [u64]) -> Answer
-    ensures answer { λ r. ⌜ r ≡ answered (mapDone groupColour (groupAt (now (stream .entry)) g)) (now (numbers .entry)) ⌝ }
-    ensures numbers { λ r. ⌜ now (numbers .exit) ≡ after (mapDone groupColour (groupAt (now (stream .entry)) g)) (now (numbers .entry)) ⌝ }
-{
-    match groups::group_at(stream, g) {
-        GroupAnswer::Group(_, display) => hand_shown_colour(display, numbers),
-        GroupAnswer::NoRow => no_group(),
-        GroupAnswer::Refused(why) => refused_stream(why),
-    }
+    handover::group(stream, g, numbers)
 }
 
 // ── bodies ──
@@ -430,80 +91,16 @@ pub extern "C" fn avsplus_sequence_header(body: &[u8], numbers: &mut [u64]) -> A
     ensures answer { λ r. ⌜ r ≡ answered (mapDone headerNumbers (reader.headerOf (now (body .entry)))) (now (numbers .entry)) ⌝ }
     ensures numbers { λ r. ⌜ now (numbers .exit) ≡ after (mapDone headerNumbers (reader.headerOf (now (body .entry)))) (now (numbers .entry)) ⌝ }
 {
-    match layout::sequence_header(body) {
-        HeaderAnswer::Header(h) => hand_header(h, numbers),
-        HeaderAnswer::Refused(why) => refused_body(why),
-    }
+    handover::sequence_header(body, numbers)
 }
 
-fn place_for(head: bool) -> Place
-    ensures { λ r. ⌜ r ≡ placeFor head ⌝ }
-{
-    if head { Place::Head } else { Place::Picture }
-}
-
-// An extension's body: its number.
+// An extension's body: its number, and what it says where it is not opaque.
 #[no_mangle]
 pub extern "C" fn avsplus_extension(body: &[u8], head: bool, numbers: &mut [u64]) -> Answer
-    ensures answer { λ r. ⌜ r ≡ answered (mapDone numberOf (reader.extensionOf (placeFor head) (now (body .entry)))) (now (numbers .entry)) ⌝ }
-    ensures numbers { λ r. ⌜ now (numbers .exit) ≡ after (mapDone numberOf (reader.extensionOf (placeFor head) (now (body .entry)))) (now (numbers .entry)) ⌝ }
+    ensures answer { λ r. ⌜ r ≡ answered (mapDone extensionNumbers (reader.extensionOf (scopeFor head) (now (body .entry)))) (now (numbers .entry)) ⌝ }
+    ensures numbers { λ r. ⌜ now (numbers .exit) ≡ after (mapDone extensionNumbers (reader.extensionOf (scopeFor head) (now (body .entry)))) (now (numbers .entry)) ⌝ }
 {
-    match layout::extension(body, place_for(head)) {
-        ExtensionAnswer::Display(_) => hand_number(2, numbers),
-        ExtensionAnswer::Copyright(_) => hand_number(4, numbers),
-        ExtensionAnswer::Opaque(number) => hand_number(number, numbers),
-        ExtensionAnswer::Refused(why) => refused_body(why),
-    }
-}
-
-// An extension's body as a display extension, given or not given.
-#[no_mangle]
-pub extern "C" fn avsplus_display(body: &[u8], head: bool, numbers: &mut [u64]) -> Answer
-    ensures answer { λ r. ⌜ r ≡ answered (mapDone displayOf (reader.extensionOf (placeFor head) (now (body .entry)))) (now (numbers .entry)) ⌝ }
-    ensures numbers { λ r. ⌜ now (numbers .exit) ≡ after (mapDone displayOf (reader.extensionOf (placeFor head) (now (body .entry)))) (now (numbers .entry)) ⌝ }
-{
-    match layout::extension(body, place_for(head)) {
-        ExtensionAnswer::Display(d) => hand_display(d, numbers),
-        ExtensionAnswer::Copyright(_) => not_given(),
-        ExtensionAnswer::Opaque(_) => not_given(),
-        ExtensionAnswer::Refused(why) => refused_body(why),
-    }
-}
-
-// An extension's body as a copyright extension, given or not given.
-#[no_mangle]
-pub extern "C" fn avsplus_copyright(body: &[u8], head: bool, numbers: &mut [u64]) -> Answer
-    ensures answer { λ r. ⌜ r ≡ answered (mapDone copyrightOf (reader.extensionOf (placeFor head) (now (body .entry)))) (now (numbers .entry)) ⌝ }
-    ensures numbers { λ r. ⌜ now (numbers .exit) ≡ after (mapDone copyrightOf (reader.extensionOf (placeFor head) (now (body .entry)))) (now (numbers .entry)) ⌝ }
-{
-    match layout::extension(body, place_for(head)) {
-        ExtensionAnswer::Display(_) => not_given(),
-        ExtensionAnswer::Copyright(c) => hand_copyright(c, numbers),
-        ExtensionAnswer::Opaque(_) => not_given(),
-        ExtensionAnswer::Refused(why) => refused_body(why),
-    }
-}
-
-fn hand_colour_of(d: DisplayExtension, numbers: &mut [u64]) -> Answer
-    ensures answer { λ r. ⌜ r ≡ answered (done (colourNumbers (d .colour))) (now (numbers .entry)) ⌝ }
-    ensures numbers { λ r. ⌜ now (numbers .exit) ≡ after (done (colourNumbers (d .colour))) (now (numbers .entry)) ⌝ }
-{
-    let colour = d.colour;
-    hand_colour(colour, numbers)
-}
-
-// The colour of an extension's body, given or not given.
-#[no_mangle]
-pub extern "C" fn avsplus_display_colour(body: &[u8], head: bool, numbers: &mut [u64]) -> Answer
-    ensures answer { λ r. ⌜ r ≡ answered (mapDone colourOf (reader.extensionOf (placeFor head) (now (body .entry)))) (now (numbers .entry)) ⌝ }
-    ensures numbers { λ r. ⌜ now (numbers .exit) ≡ after (mapDone colourOf (reader.extensionOf (placeFor head) (now (body .entry)))) (now (numbers .entry)) ⌝ }
-{
-    match layout::extension(body, place_for(head)) {
-        ExtensionAnswer::Display(d) => hand_colour_of(d, numbers),
-        ExtensionAnswer::Copyright(_) => not_given(),
-        ExtensionAnswer::Opaque(_) => not_given(),
-        ExtensionAnswer::Refused(why) => refused_body(why),
-    }
+    handover::extension(body, head, numbers)
 }
 
 // The frame rate of a code, given or not given.
@@ -512,7 +109,7 @@ pub extern "C" fn avsplus_frame_rate(code: u32, numbers: &mut [u64]) -> Answer
     ensures answer { λ r. ⌜ r ≡ answered (done (ratioNumbers (frameRate code))) (now (numbers .entry)) ⌝ }
     ensures numbers { λ r. ⌜ now (numbers .exit) ≡ after (done (ratioNumbers (frameRate code))) (now (numbers .entry)) ⌝ }
 {
-    hand_ratio(ratios::frame_rate(code), numbers)
+    handover::frame_rate(code, numbers)
 }
 
 // The display ratio of an aspect, given or not given.
@@ -521,7 +118,7 @@ pub extern "C" fn avsplus_display_ratio(aspect: u32, numbers: &mut [u64]) -> Ans
     ensures answer { λ r. ⌜ r ≡ answered (done (ratioNumbers (displayRatio aspect))) (now (numbers .entry)) ⌝ }
     ensures numbers { λ r. ⌜ now (numbers .exit) ≡ after (done (ratioNumbers (displayRatio aspect))) (now (numbers .entry)) ⌝ }
 {
-    hand_ratio(ratios::display_ratio(aspect), numbers)
+    handover::display_ratio(aspect, numbers)
 }
 
 // ── payloads ──
@@ -532,43 +129,7 @@ pub extern "C" fn avsplus_remove_escapes(raw: &[u8], output: &mut [u8]) -> Answe
     ensures answer { λ r. ⌜ r ≡ counted (removal (now (raw .entry)) (length (now (output .entry)))) ⌝ }
     ensures output { λ r. ⌜ now (output .exit) ≡ outputAfter (removal (now (raw .entry)) (length (now (output .entry)))) (now (raw .entry)) (now (output .entry)) ⌝ }
 {
-    match payload::remove_escapes(raw, output) {
-        Removed::Done(bits) => Answer {
-            status: 0,
-            place: 0,
-            count: bits,
-        },
-        Removed::Full => Answer {
-            status: 12,
-            place: 0,
-            count: 0,
-        },
-        Removed::TooLong => Answer {
-            status: 13,
-            place: 0,
-            count: 0,
-        },
-    }
-}
-
-fn no_number(status: u32, place: usize) -> Number
-    ensures { λ r. ⌜ r ≡ numberAnswer place (refused status []) ⌝ }
-{
-    Number {
-        status: status,
-        number: NO_NUMBER,
-        place: place,
-    }
-}
-
-fn no_signed_number(status: u32, place: usize) -> SignedNumber
-    ensures { λ r. ⌜ r ≡ signedAnswer place (refused status []) ⌝ }
-{
-    SignedNumber {
-        status: status,
-        number: NO_SIGNED_NUMBER,
-        place: place,
-    }
+    statuses::remove_escapes(raw, output)
 }
 
 // The Exp-Golomb number at a place of a payload.
@@ -576,16 +137,7 @@ fn no_signed_number(status: u32, place: usize) -> SignedNumber
 pub extern "C" fn avsplus_unsigned_golomb(bytes: &[u8], bits: usize, place: usize) -> Number
     ensures { λ r. ⌜ r ≡ numberAnswer place (golomb (now (bytes .entry)) bits place) ⌝ }
 {
-    match payload::unsigned_golomb(bytes, bits, place) {
-        Golomb::Number(n, next) => Number {
-            status: 0,
-            number: n,
-            place: next,
-        },
-        Golomb::Value => no_number(8, place),
-        Golomb::TooLong => no_number(13, place),
-        Golomb::PayloadOut => no_number(14, place),
-    }
+    marked::unsigned_golomb(bytes, bits, place)
 }
 
 // The same as a signed number.
@@ -593,16 +145,7 @@ pub extern "C" fn avsplus_unsigned_golomb(bytes: &[u8], bits: usize, place: usiz
 pub extern "C" fn avsplus_signed_golomb(bytes: &[u8], bits: usize, place: usize) -> SignedNumber
     ensures { λ r. ⌜ r ≡ signedAnswer place (signedGolomb (now (bytes .entry)) bits place) ⌝ }
 {
-    match payload::signed_golomb(bytes, bits, place) {
-        SignedGolomb::Number(n, next) => SignedNumber {
-            status: 0,
-            number: n,
-            place: next,
-        },
-        SignedGolomb::Value => no_signed_number(8, place),
-        SignedGolomb::TooLong => no_signed_number(13, place),
-        SignedGolomb::PayloadOut => no_signed_number(14, place),
-    }
+    marked::signed_golomb(bytes, bits, place)
 }
 
 // ── bins ──
@@ -620,16 +163,7 @@ pub extern "C" fn avsplus_fresh_context() -> Context
 pub extern "C" fn avsplus_start(bytes: &[u8], bits: usize, state: State) -> Begun
     ensures { λ r. ⌜ r ≡ begunAnswer state (startOf (now (bytes .entry)) bits) ⌝ }
 {
-    match aec::start(bytes, bits) {
-        Started::Done(next) => Begun {
-            status: 0,
-            state: next,
-        },
-        Started::Refused(why) => Begun {
-            status: bin_number(why),
-            state: state,
-        },
-    }
+    marked::start(bytes, bits, state)
 }
 
 // A bin by one context.
@@ -637,20 +171,7 @@ pub extern "C" fn avsplus_start(bytes: &[u8], bits: usize, state: State) -> Begu
 pub extern "C" fn avsplus_decode(bytes: &[u8], bits: usize, state: State, context: Context) -> Bin
     ensures { λ r. ⌜ r ≡ binAnswer state context (decodeOf (now (bytes .entry)) bits state context) ⌝ }
 {
-    match aec::decode(bytes, bits, state, context) {
-        Decoded::Done(bin, next, updated) => Bin {
-            status: 0,
-            bin: bin,
-            state: next,
-            context: updated,
-        },
-        Decoded::Refused(why) => Bin {
-            status: bin_number(why),
-            bin: NO_BIN,
-            state: state,
-            context: context,
-        },
-    }
+    marked::decode(bytes, bits, state, context)
 }
 
 // A bin by two contexts.
@@ -664,39 +185,7 @@ pub extern "C" fn avsplus_decode_pair(
 ) -> PairBin
     ensures { λ r. ⌜ r ≡ pairAnswer state first second (decodePairOf (now (bytes .entry)) bits state first second) ⌝ }
 {
-    match aec::decode_pair(bytes, bits, state, first, second) {
-        DecodedPair::Done(bin, next, a, b) => PairBin {
-            status: 0,
-            bin: bin,
-            state: next,
-            first: a,
-            second: b,
-        },
-        DecodedPair::Refused(why) => PairBin {
-            status: bin_number(why),
-            bin: NO_BIN,
-            state: state,
-            first: first,
-            second: second,
-        },
-    }
-}
-
-fn plain_bin(answer: Stepped, state: State) -> PlainBin
-    ensures { λ r. ⌜ r ≡ plainAnswer state (steppedSays answer) ⌝ }
-{
-    match answer {
-        Stepped::Done(bin, next) => PlainBin {
-            status: 0,
-            bin: bin,
-            state: next,
-        },
-        Stepped::Refused(why) => PlainBin {
-            status: bin_number(why),
-            bin: NO_BIN,
-            state: state,
-        },
-    }
+    marked::decode_pair(bytes, bits, state, first, second)
 }
 
 // A bypass bin.
@@ -704,7 +193,7 @@ fn plain_bin(answer: Stepped, state: State) -> PlainBin
 pub extern "C" fn avsplus_bypass(bytes: &[u8], bits: usize, state: State) -> PlainBin
     ensures { λ r. ⌜ r ≡ plainAnswer state (bypassOf (now (bytes .entry)) bits state) ⌝ }
 {
-    plain_bin(aec::bypass(bytes, bits, state), state)
+    marked::bypass(bytes, bits, state)
 }
 
 // A stuffing bin.
@@ -712,7 +201,7 @@ pub extern "C" fn avsplus_bypass(bytes: &[u8], bits: usize, state: State) -> Pla
 pub extern "C" fn avsplus_stuffing(bytes: &[u8], bits: usize, state: State) -> PlainBin
     ensures { λ r. ⌜ r ≡ plainAnswer state (stuffingOf (now (bytes .entry)) bits state) ⌝ }
 {
-    plain_bin(aec::stuffing(bytes, bits, state), state)
+    marked::stuffing(bytes, bits, state)
 }
 
 // ── start codes ──
@@ -725,28 +214,10 @@ pub extern "C" fn avsplus_next_start_code(stream: &[u8], from: usize) -> usize
     startcode::next_prefix(stream, from)
 }
 
-fn kind_number(kind: Kind) -> u32
-    ensures { λ r. ⌜ r ≡ kindNumber kind ⌝ }
-{
-    match kind {
-        Kind::Slice => 0,
-        Kind::SequenceHeader => 1,
-        Kind::SequenceEnd => 2,
-        Kind::UserData => 3,
-        Kind::IPicture => 4,
-        Kind::Extension => 5,
-        Kind::PBPicture => 6,
-        Kind::EditCode => 7,
-    }
-}
-
 // The number of a unit's kind, by its code byte.
 #[no_mangle]
 pub extern "C" fn avsplus_kind(code: u8) -> u32
     ensures { λ r. ⌜ r ≡ kindAnswer (kindOf code) ⌝ }
 {
-    match startcode::kind_of(code) {
-        UnitKind::Is(kind) => kind_number(kind),
-        UnitKind::Unknown => 8,
-    }
+    statuses::kind(code)
 }

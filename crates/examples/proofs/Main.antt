@@ -6,10 +6,12 @@ use Rattle.bits.specs.Lists.{All}
 use Rattle.startcode.specs.Kinds.{kindOf}
 use Rattle.startcode.specs.Prefix.{begins}
 use Rattle.layout.specs.Layouts.{fields, leastBytes, faultAt}
-use Rattle.layout.specs.Reader.{allows, valuesOf, judge, cross, judged, ended, reading, answerOf, recordOf, headerOf, plainOf, colouredOf, copyrightOf, ownerRules, displayShort, displayOf, byNumber, extensionResult, extensionOf}
-use Rattle.layout.specs.Extensions.{numbered, isOpaque}
-use Rattle.layout.specs.Records.{headerRecord, plainRecord, colouredRecord, copyrightRecord}
-use Rattle.layout.specs.Answers.{faultNumber}
+use Rattle.layout.specs.Values.{ownership}
+use Rattle.layout.specs.Reader.{allows, valuesOf, judge, cross, judged, ended, reading, ownerRules}
+use Rattle.bodies.specs.Reader.{answerOf, recordOf, headerOf, plainOf, colouredOf, copyrightOf, displayShort, displayOf, byNumber, extensionResult, extensionOf}
+use Rattle.bodies.specs.Extensions.{numbered, isOpaque}
+use Rattle.bodies.specs.Records.{headerRecord, plainRecord, colouredRecord, copyrightRecord}
+use Rattle.bodies.specs.Answers.{faultNumber}
 use Rattle.ratios.specs.Ratios.{entryOf, frameRate, displayRatio}
 use Rattle.grammar.specs.Rows.{rowLength}
 use Rattle.grammar.specs.Reader.{cut, step, walkFrom, walkOfAny, walk, filing, walkInto, filingInto}
@@ -33,5 +35,5 @@ unfolding bitsIn bitsOf bitAt readOn readAt packOn kindOf begins fields leastByt
 examples-hold = each examples refl
 
 pub limits-hold : All Holds limits
-unfolding bitsIn bitsOf bitAt readOn readAt packOn kindOf begins fields leastBytes faultAt allows valuesOf judge cross judged ended reading headerRecord faultNumber answerOf recordOf headerOf rowLength isOpaque numbered cut step walkFrom walkOfAny walk filing heldRow inStream existing displayIn groupIn groupAt kept copied removal zerosOn golomb standsFor signedGolomb goodState goodContext withinLimit refusedFirst doubleOf shifts startOf splitOf missesOf remainderOf unpredictedOf stepOf rateOf nextCycno nextLg gainOf foldOf updateOf decodeOf plainRecord colouredRecord copyrightRecord plainOf colouredOf copyrightOf ownerRules displayShort displayOf byNumber extensionResult extensionOf entryOf frameRate displayRatio pairOf decodePairOf writtenOn bytesIn changed
+unfolding bitsIn bitsOf bitAt readOn readAt packOn kindOf begins fields leastBytes faultAt allows valuesOf judge cross judged ended reading headerRecord faultNumber answerOf recordOf headerOf rowLength isOpaque numbered cut step walkFrom walkOfAny walk filing heldRow inStream existing displayIn groupIn groupAt kept copied removal zerosOn golomb standsFor signedGolomb goodState goodContext withinLimit refusedFirst doubleOf shifts startOf splitOf missesOf remainderOf unpredictedOf stepOf rateOf nextCycno nextLg gainOf foldOf updateOf decodeOf plainRecord colouredRecord copyrightRecord ownership plainOf colouredOf copyrightOf ownerRules displayShort displayOf byNumber extensionResult extensionOf entryOf frameRate displayRatio pairOf decodePairOf writtenOn bytesIn changed
 limits-hold = each limits refl

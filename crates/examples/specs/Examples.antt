@@ -7,8 +7,8 @@ use lib.ListN.{length}
 use Rattle.answers.specs.Answers.{Outcome, done, refused, mapDone, NO-CODE, CUT, VALUE, STUFFING, UNENDED, FULL, PAYLOAD-OUT, andThen}
 use Rattle.bits.specs.Lists.{All}
 use Rattle.startcode.specs.declared.Kind.{Kind}
-use Rattle.layout.specs.Reader.{headerOf}
-use Rattle.layout.specs.declared.SequenceHeader.{SequenceHeader}
+use Rattle.bodies.specs.Reader.{headerOf}
+use Rattle.bodies.specs.declared.SequenceHeader.{SequenceHeader}
 use Rattle.macroblocks.specs.Macroblocks.{macroblockColumns, macroblockRows}
 use Rattle.grammar.specs.Rows.{Row, words}
 use Rattle.grammar.specs.Reader.{filingInto}

@@ -10,12 +10,12 @@ use Rattle.answers.specs.Answers.{Outcome, done, refused, mapDone, NO-CODE, CUT
 use Rattle.answers.specs.Limits.{longestStream, longestPayload, mostBits}
 use Rattle.startcode.specs.Kinds.{kindOf}
 use Rattle.startcode.specs.declared.Kind.the-variants as kind
-use Rattle.layout.specs.Answers.{Extension, display, copyright, opaque}
-use Rattle.layout.specs.Reader.{headerOf, extensionOf}
-use Rattle.layout.specs.declared.SequenceHeader.{SequenceHeader}
-use Rattle.layout.specs.declared.Colour.{Colour}
-use Rattle.layout.specs.declared.Colour.the-variants as colour
-use Rattle.layout.specs.declared.Place.the-variants.{Head, Picture}
+use Rattle.bodies.specs.Answers.{Extension, display, copyright, opaque}
+use Rattle.bodies.specs.Reader.{headerOf, extensionOf}
+use Rattle.bodies.specs.declared.SequenceHeader.{SequenceHeader}
+use Rattle.bodies.specs.declared.Colour.{Colour}
+use Rattle.bodies.specs.declared.Colour.the-variants as colour
+use Rattle.bodies.specs.declared.Scope.the-variants.{Head, Picture}
 use Rattle.ratios.specs.Ratios.{frameRate, displayRatio}
 use Rattle.ratios.specs.declared.Ratio.{Ratio}
 use Rattle.ratios.specs.declared.Ratio.the-variants as ratio

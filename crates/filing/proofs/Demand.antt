@@ -14,7 +14,7 @@ use Rattle.answers.specs.Results.{good, bad, mapGood}
 use Rattle.answers.proofs.OutcomeLaws.{undone}
 use Rattle.answers.proofs.ResultLaws.{not-good, not-bad, good-same, bad-same}
 use Rattle.bits.proofs.TestLaws.{by-test}
-use Rattle.layout.specs.Answers.{faultNumber}
+use Rattle.bodies.specs.Answers.{faultNumber}
 use Rattle.layout.specs.declared.Fault.{Fault}
 use Rattle.layout.specs.declared.Fault.the-variants as fault
 use Rattle.startcode.specs.declared.Kind.{Kind}

@@ -8,7 +8,7 @@ ghost use Prim.Native.Nat.{_+_, _*_, _≤_, _<_};
 ghost use lib.ListN;
 ghost use lib.ListN.{length, take, drop};
 ghost use Rattle.answers.specs.Results.{mapGood};
-ghost use Rattle.layout.specs.Answers.{faultNumber};
+ghost use Rattle.bodies.specs.Answers.{faultNumber};
 ghost use Rattle.grammar.specs.Rows.{rowsFrom};
 ghost use Rattle.grammar.specs.Reasons as inside;
 ghost use Rattle.grammar.specs.Reader.{final, said, walkOfAny, walk, filingInto};

@@ -14,26 +14,28 @@ use Rattle.bits.specs.Bits.{bitsIn, bitsOf, bitAt}
 use Rattle.bits.specs.declared.Bit.the-variants as bit
 use Rattle.bits.specs.declared.Read.the-variants.{Value}
 use Rattle.bits.proofs.TestLaws.{by-test}
-use Rattle.layout.specs.Reader.{recordOf, numberOf, headerResult, byNumber, notCopyright, extensionResult, readBit, displayShort, displayOf, plainOf, colouredOf, copyrightOf, refuseIf, readValue}
-use Rattle.layout.specs.Extensions.{numbered}
-use Rattle.layout.proofs.NumberLaws.{number-iff, number-one, number-byte, numbered-by}
-use Rattle.layout.specs.Answers as answers
+use Rattle.layout.specs.Reader.{refuseIf, readValue}
+use Rattle.bodies.specs.Reader.{recordOf, numberOf, headerResult, byNumber, notCopyright, extensionResult, readBit, displayShort, displayOf, plainOf, colouredOf, copyrightOf}
+use Rattle.bodies.specs.Extensions.{numbered}
+use Rattle.bodies.proofs.NumberLaws.{number-iff, number-one, number-byte, numbered-by}
+use Rattle.bodies.specs.Answers as answers
 use Rattle.layout.specs.Layouts.{fields, leastBytes}
 use Rattle.layout.specs.Obeys.{Fits, AllAllowed, written, Obeys}
 use Rattle.answers.specs.Results.{good, _>>=_}
-use Rattle.layout.specs.Records.{headerRecord, plainRecord, colouredRecord, copyrightRecord}
+use Rattle.bodies.specs.Records.{headerRecord, plainRecord, colouredRecord, copyrightRecord}
 use Rattle.layout.specs.declared.Layout.{Layout}
 use Rattle.layout.specs.declared.Fault.the-variants as fault
 use Rattle.layout.specs.declared.Layout.the-variants.{Header, Display, Coloured, Copyright}
-use Rattle.layout.specs.declared.Place.{Place}
-use Rattle.layout.specs.declared.Place.the-variants as place
-use Rattle.layout.specs.declared.SequenceHeader.{SequenceHeader}
-use Rattle.layout.proofs.AnswerLaws.{short-by}
-use Rattle.layout.proofs.AnswerLaws as laws
+use Rattle.bodies.specs.declared.Scope.{Scope}
+use Rattle.bodies.specs.declared.Scope.the-variants as scope
+use Rattle.bodies.specs.declared.SequenceHeader.{SequenceHeader}
+use Rattle.bodies.proofs.AnswerLaws.{short-by}
+use Rattle.bodies.proofs.AnswerLaws as laws
 use Rattle.layout.proofs.LayoutLaws.{fits-length, spell, spelled}
-use Rattle.layout.proofs.BreakAnswers.{copyright-made, number-there}
-use Rattle.layout.proofs.ExtensionLaws.{plain-made, coloured-made, display-bit, coloured-bit, record-if, if-record}
-use Rattle.layout.proofs.ObeyLaws.{then-good, value-good}
+use Rattle.bodies.proofs.BreakLaws.{copyright-made, number-there}
+use Rattle.bodies.proofs.ExtensionLaws.{plain-made, coloured-made, display-bit, coloured-bit, record-if, if-record}
+use Rattle.layout.proofs.ReadingLaws.{value-good}
+use Rattle.layout.proofs.ObeyLaws.{then-good}
 use Rattle.grammar.specs.Grammar.{Extension, IsHeader, IsCopyright, IsDisplay}
 
 -- ── sequence header ──
@@ -69,7 +71,7 @@ unfolding copyrightOf
 copyright-good body = layout-good Copyright copyrightRecord answers.copyright body copyright-made
 
 -- an extension that is no display extension where it stands
-module _ (body : List ℕ) (p : Place) (plain : (n : ℕ) → numberOf body ≡ Value n → notCopyright p body n ≡ good (answers.opaque n)) where
+module _ (body : List ℕ) (p : Scope) (plain : (n : ℕ) → numberOf body ≡ Value n → notCopyright p body n ≡ good (answers.opaque n)) where
   extension-good : ((x : answers.Extension) × (extensionResult p body ≡ good x)) ↔ Extension body
   unfolding extensionResult byNumber
   extension-good = (
@@ -95,12 +97,12 @@ module _ (body : List ℕ) (p : Place) (plain : (n : ℕ) → numberOf body ≡ 
   )
 
 -- after a picture header
-pub picture-good : (body : List ℕ) → ((x : answers.Extension) × (extensionResult place.Picture body ≡ good x)) ↔ Extension body
-picture-good body = extension-good body place.Picture (λ n e. refl)
+pub picture-good : (body : List ℕ) → ((x : answers.Extension) × (extensionResult scope.Picture body ≡ good x)) ↔ Extension body
+picture-good body = extension-good body scope.Picture (λ n e. refl)
 
 -- in a group's head, where the number is not 2
-pub head-good : (body : List ℕ) → numbered 2 body ≡ false → ((x : answers.Extension) × (extensionResult place.Head body ≡ good x)) ↔ Extension body
-head-good body f = extension-good body place.Head (λ n e. let two = two-is body n e f in rw two)
+pub head-good : (body : List ℕ) → numbered 2 body ≡ false → ((x : answers.Extension) × (extensionResult scope.Head body ≡ good x)) ↔ Extension body
+head-good body f = extension-good body scope.Head (λ n e. let two = two-is body n e f in rw two)
 
 -- ── display extensions ──
 

@@ -8,14 +8,14 @@ use native.Mathlib.Omega.{arith}
 use Rattle.bits.specs.Lists.{All}
 use Rattle.bits.proofs.TestLaws.{by-test, contrary}
 use Rattle.startcode.specs.declared.Kind.the-variants as kind
-use Rattle.layout.specs.Extensions.{numbered, HasNumber}
-use Rattle.layout.specs.declared.Place.{Place}
-use Rattle.layout.specs.declared.Place.the-variants as place
-use Rattle.layout.specs.declared.SequenceHeader.{SequenceHeader}
+use Rattle.bodies.specs.Extensions.{numbered, HasNumber}
+use Rattle.bodies.specs.declared.Scope.{Scope}
+use Rattle.bodies.specs.declared.Scope.the-variants as scope
+use Rattle.bodies.specs.declared.SequenceHeader.{SequenceHeader}
 use Rattle.grammar.specs.Lists.{AtMostOne, concatMap}
 use Rattle.grammar.specs.Grammar.{StreamUnit, IsKind, Picture, Group, Nonzero, Rising, Empty, IsEnding, Extension, IsHeader, IsDisplay, PictureExtra, HeadExtra, DisplayUnit, IsSlice, IsPictureHead, IsPicture, FirstIsI, IsGroup, sliceRule}
 use Rattle.grammar.specs.Rows.{Placed, placed, placedPicture, placedGroup}
-use Rattle.grammar.specs.Reader.{placeIn, final}
+use Rattle.grammar.specs.Reader.{scopeIn, final}
 use Rattle.grammar.specs.declared.SliceRule.{SliceRule}
 use Rattle.grammar.specs.declared.State.{State}
 use Rattle.grammar.proofs.KindLaws.{apart}
@@ -39,15 +39,15 @@ rising-from-zero : (rows : ℕ) (ss : List StreamUnit) → Rising ss × All (λ 
 rising-from-zero rows [] r = tt
 rising-from-zero rows (s ∷ ss) r = to-rising 0 rows s ss (omega arith) (r .0) (r .1)
 
-picture-marks : (p : Picture) (t : List Placed) → placedPicture p ++ t ≡ placed place.Picture (p .head) ∷ (map (placed place.Picture) (p .extras) ++ (map (placed place.Picture) (p .slices) ++ t))
-picture-marks p t = ap (λ (l : List Placed). placed place.Picture (p .head) ∷ (l ++ t)) (map-append (placed place.Picture) (p .extras) (p .slices)) ∙ simp append-assoc
+picture-marks : (p : Picture) (t : List Placed) → placedPicture p ++ t ≡ placed scope.Picture (p .head) ∷ (map (placed scope.Picture) (p .extras) ++ (map (placed scope.Picture) (p .slices) ++ t))
+picture-marks p t = ap (λ (l : List Placed). placed scope.Picture (p .head) ∷ (l ++ t)) (map-append (placed scope.Picture) (p .extras) (p .slices)) ∙ simp append-assoc
 
 pictures-marks : (p : Picture) (ps : List Picture) (t : List Placed)
-    → concatMap placedPicture (p ∷ ps) ++ t ≡ placed place.Picture (p .head) ∷ (map (placed place.Picture) (p .extras) ++ (map (placed place.Picture) (p .slices) ++ (concatMap placedPicture ps ++ t)))
+    → concatMap placedPicture (p ∷ ps) ++ t ≡ placed scope.Picture (p .head) ∷ (map (placed scope.Picture) (p .extras) ++ (map (placed scope.Picture) (p .slices) ++ (concatMap placedPicture ps ++ t)))
 pictures-marks p ps t = append-assoc (placedPicture p) (concatMap placedPicture ps) t ∙ picture-marks p (concatMap placedPicture ps ++ t)
 
 groups-marks : (g : Group) (gs : List Group) (t : List Placed)
-    → concatMap placedGroup (g ∷ gs) ++ t ≡ placed place.Picture (g .head) ∷ (map (placed place.Head) (g .extras) ++ (concatMap placedPicture (g .pictures) ++ (concatMap placedGroup gs ++ t)))
+    → concatMap placedGroup (g ∷ gs) ++ t ≡ placed scope.Picture (g .head) ∷ (map (placed scope.Head) (g .extras) ++ (concatMap placedPicture (g .pictures) ++ (concatMap placedGroup gs ++ t)))
 groups-marks g gs t = simp append-assoc
 
 -- ── an extension's number is 2, or not ──
@@ -83,7 +83,7 @@ pub data Goes : State → StreamUnit → State → Type 0 where
 
 abbrev pub Accepts : State → List Placed → Type 0
 Accepts q [] = final q ≡ true
-Accepts q (m ∷ ms) = (q′ : State) × Goes q (m .unit) q′ × (m .place ≡ placeIn q (m .unit)) × Accepts q′ ms
+Accepts q (m ∷ ms) = (q′ : State) × Goes q (m .unit) q′ × (m .scope ≡ scopeIn q (m .unit)) × Accepts q′ ms
 
 -- ── from the states to the grammar ──
 
@@ -92,7 +92,7 @@ pub record RestGroups (ms : List Placed) : Type 0 where
   pub e : List StreamUnit
   pub groups : All (IsGroup) gs
   pub ending : IsEnding e
-  pub is : ms ≡ concatMap placedGroup gs ++ map (placed place.Picture) e
+  pub is : ms ≡ concatMap placedGroup gs ++ map (placed scope.Picture) e
 
 pub record RestPictures (h : SliceRule) (ms : List Placed) : Type 0 where
   pub ps : List Picture
@@ -106,14 +106,14 @@ pub record RestSlices (h : SliceRule) (n : ℕ) (ms : List Placed) : Type 0 wher
   pub tail : List Placed
   pub slices : All IsSlice ss
   pub order : h .tested ≡ true → RisingFrom n (h .rows) ss
-  pub is : ms ≡ map (placed place.Picture) ss ++ tail
+  pub is : ms ≡ map (placed scope.Picture) ss ++ tail
   pub after : RestPictures h tail
 
 pub record RestPicture (h : SliceRule) (ms : List Placed) : Type 0 where
   pub xs : List StreamUnit
   pub tail : List Placed
   pub extras : All (PictureExtra) xs
-  pub is : ms ≡ map (placed place.Picture) xs ++ tail
+  pub is : ms ≡ map (placed scope.Picture) xs ++ tail
   pub after : RestSlices h 0 tail
   pub some-slice : after .ss ≢ []
 
@@ -123,7 +123,7 @@ pub record RestHead (h : SliceRule) (d : Bool) (ms : List Placed) : Type 0 where
   pub extras : All (HeadExtra) xs
   pub one-display : AtMostOne (DisplayUnit) xs
   pub none-more : d ≡ true → All (λ u. ¬ DisplayUnit u) xs
-  pub is : ms ≡ map (placed place.Head) xs ++ tail
+  pub is : ms ≡ map (placed scope.Head) xs ++ tail
   pub after : RestPictures h tail
   pub first : FirstIsI (after .ps)
 
@@ -136,10 +136,10 @@ Rest Start ms = RestStart ms
 Rest (Head h d) ms = RestHead h d ms
 Rest (InPicture h) ms = RestPicture h ms
 Rest (Slices h n) ms = RestSlices h n ms
-Rest Ended ms = (ms ≡ []) ⊎ ((e : StreamUnit) × Empty kind.EditCode e × (ms ≡ placed place.Picture e ∷ []))
+Rest Ended ms = (ms ≡ []) ⊎ ((e : StreamUnit) × Empty kind.EditCode e × (ms ≡ placed scope.Picture e ∷ []))
 Rest Closed ms = ms ≡ []
 
-one-group : {ms : List Placed} (u : StreamUnit) (b : Place) (header : SequenceHeader) → IsKind kind.SequenceHeader u → IsHeader (u .body) header → b ≡ place.Picture → RestHead (sliceRule header) false ms → RestStart (placed b u ∷ ms)
+one-group : {ms : List Placed} (u : StreamUnit) (b : Scope) (header : SequenceHeader) → IsKind kind.SequenceHeader u → IsHeader (u .body) header → b ≡ scope.Picture → RestHead (sliceRule header) false ms → RestStart (placed b u ∷ ms)
 one-group u b header c k f r = record {
   rest = record {
     gs = record { head = u; extras = r .xs; pictures = r .after .ps } ∷ r .after .after .gs;
@@ -151,7 +151,7 @@ one-group u b header c k f r = record {
   some-group = cons-ne-nil _ _;
 }
 
-one-picture : {h : SliceRule} {ms : List Placed} (u : StreamUnit) (b : Place) → IsPictureHead u → Nonzero (u .body) → b ≡ place.Picture → RestPicture h ms → RestPictures h (placed b u ∷ ms)
+one-picture : {h : SliceRule} {ms : List Placed} (u : StreamUnit) (b : Scope) → IsPictureHead u → Nonzero (u .body) → b ≡ scope.Picture → RestPicture h ms → RestPictures h (placed b u ∷ ms)
 one-picture {h} u b c k f r = record {
   ps = record { head = u; extras = r .xs; slices = r .after .ss } ∷ r .after .after .ps;
   tail = r .after .after .tail;
@@ -166,10 +166,10 @@ no-slices r = record { ss = []; tail = _; slices = tt; order = λ o. tt; is = re
 no-pictures : {h : SliceRule} {n : ℕ} {ms : List Placed} → RestGroups ms → RestSlices h n ms
 no-pictures r = no-slices (record { ps = []; tail = _; pictures = tt; is = refl; after = r })
 
-just-ending : {h : SliceRule} {n : ℕ} {ms : List Placed} (e : List StreamUnit) → IsEnding e → ms ≡ map (placed place.Picture) e → RestSlices h n ms
+just-ending : {h : SliceRule} {n : ℕ} {ms : List Placed} (e : List StreamUnit) → IsEnding e → ms ≡ map (placed scope.Picture) e → RestSlices h n ms
 just-ending e k p = no-pictures (record { gs = []; e = e; groups = tt; ending = k; is = p })
 
-more-extra : {h : SliceRule} {d : Bool} {ms : List Placed} (u : StreamUnit) (b : Place) → HeadExtra u → ¬ DisplayUnit u → b ≡ place.Head → RestHead h d ms → RestHead h d (placed b u ∷ ms)
+more-extra : {h : SliceRule} {d : Bool} {ms : List Placed} (u : StreamUnit) (b : Scope) → HeadExtra u → ¬ DisplayUnit u → b ≡ scope.Head → RestHead h d ms → RestHead h d (placed b u ∷ ms)
 more-extra u b k n f r = record {
   xs = u ∷ r .xs;
   tail = r .tail;
@@ -181,19 +181,19 @@ more-extra u b k n f r = record {
   first = r .first;
 }
 
-one-slice : {h : SliceRule} {n : ℕ} {ms : List Placed} (u : StreamUnit) (b : Place) → IsSlice u → (h .tested ≡ true → (n ≤ u .code) × (u .code < h .rows)) → b ≡ place.Picture → RestSlices h (u .code + 1) ms → RestSlices h n (placed b u ∷ ms)
+one-slice : {h : SliceRule} {n : ℕ} {ms : List Placed} (u : StreamUnit) (b : Scope) → IsSlice u → (h .tested ≡ true → (n ≤ u .code) × (u .code < h .rows)) → b ≡ scope.Picture → RestSlices h (u .code + 1) ms → RestSlices h n (placed b u ∷ ms)
 one-slice u b k o f r = record { ss = u ∷ r .ss; tail = r .tail; slices = (k, r .slices); order = λ w. (o w .0, o w .1, r .order w); is = rw (f, r .is); after = r .after }
 
 no-false : {A : Type 0} → false ≡ true → A
 no-false e = let z : _≡_ {A = ℕ} 0 1 = cc in absurd (omega arith)
 
 -- one unit back
-back : {q q′ : State} {u : StreamUnit} → Goes q u q′ → (b : Place) → b ≡ placeIn q u → (ms : List Placed) → Rest q′ ms → Rest q (placed b u ∷ ms)
+back : {q q′ : State} {u : StreamUnit} → Goes q u q′ → (b : Scope) → b ≡ scopeIn q u → (ms : List Placed) → Rest q′ ms → Rest q (placed b u ∷ ms)
 unfolding one-picture one-slice
 back (sequence {u} {header} c k) b f ms r = one-group u b header c k f r
 back (user {u} c) b f ms r = more-extra u b (inl c) (λ d. apart kind.UserData kind.Extension refl c (d .0)) (rw c at f) r
 back (extension {u} c k n) b f ms r = more-extra u b (inr (c, k, λ e. absurd (n e))) (λ d. n (d .1)) (rw c at f) r
-back (display {u} c k n d) b f ms r = let t : b ≡ place.Head = rw c at f in
+back (display {u} c k n d) b f ms r = let t : b ≡ scope.Head = rw c at f in
     record {
       xs = u ∷ r .xs;
       tail = r .tail;
@@ -225,11 +225,11 @@ at-end Closed e = refl
 
 pub sound : (ms : List Placed) (q : State) → Accepts q ms → Rest q ms
 sound [] q a = at-end q a
-sound (m ∷ ms) q a = back (a .1) (m .place) (a .2) ms (sound ms (a .0) (a .3))
+sound (m ∷ ms) q a = back (a .1) (m .scope) (a .2) ms (sound ms (a .0) (a .3))
 
 -- ── from the grammar to the states ──
 
-ending-passes : (h : SliceRule) (n : ℕ) (e : List StreamUnit) → IsEnding e → Accepts (Slices h n) (map (placed place.Picture) e)
+ending-passes : (h : SliceRule) (n : ℕ) (e : List StreamUnit) → IsEnding e → Accepts (Slices h n) (map (placed scope.Picture) e)
 ending-passes h n [] p = absurd p
 ending-passes h n (e ∷ []) (inl p) = (Ended, end (p .0) (p .1), refl, refl)
 ending-passes h n (e ∷ []) (inr p) = (Closed, edit (p .0) (p .1), refl, refl)
@@ -237,21 +237,21 @@ ending-passes h n (e ∷ f ∷ []) p = (Ended, end (p .0 .0) (p .0 .1), refl, (C
 ending-passes h n (e ∷ f ∷ g ∷ more) p = absurd p
 
 slices-pass : (h : SliceRule) (n : ℕ) (ss : List StreamUnit) (rest : List Placed) → All IsSlice ss → (h .tested ≡ true → RisingFrom n (h .rows) ss) → ((m : ℕ) → Accepts (Slices h m) rest)
-    → Accepts (Slices h n) (map (placed place.Picture) ss ++ rest)
+    → Accepts (Slices h n) (map (placed scope.Picture) ss ++ rest)
 slices-pass h n [] rest k o a = a n
 slices-pass h n (s ∷ ss) rest k o a = (Slices h (s .code + 1), next-slice (k .0) (λ w. (o w .0, o w .1)), refl, slices-pass h (s .code + 1) ss rest (k .1) (λ w. o w .2) a)
 
 first-slices-pass : (h : SliceRule) (ss : List StreamUnit) (rest : List Placed) → ss ≢ [] → All IsSlice ss → (h .tested ≡ true → RisingFrom 0 (h .rows) ss) → ((m : ℕ) → Accepts (Slices h m) rest)
-    → Accepts (InPicture h) (map (placed place.Picture) ss ++ rest)
+    → Accepts (InPicture h) (map (placed scope.Picture) ss ++ rest)
 first-slices-pass h [] rest n k o a = absurd (n refl)
 first-slices-pass h (s ∷ ss) rest n k o a = (Slices h (s .code + 1), first-slice (k .0) (λ w. (o w .0, o w .1)), refl, slices-pass h (s .code + 1) ss rest (k .1) (λ w. o w .2) a)
 
-extras-pass : (h : SliceRule) (xs : List StreamUnit) (rest : List Placed) → All (PictureExtra) xs → Accepts (InPicture h) rest → Accepts (InPicture h) (map (placed place.Picture) xs ++ rest)
+extras-pass : (h : SliceRule) (xs : List StreamUnit) (rest : List Placed) → All (PictureExtra) xs → Accepts (InPicture h) rest → Accepts (InPicture h) (map (placed scope.Picture) xs ++ rest)
 extras-pass h [] rest k a = a
 extras-pass h (x ∷ xs) rest k a = (InPicture h, extra (k .0), refl, extras-pass h xs rest (k .1) a)
 
 picture-passes : (h : SliceRule) (p : Picture) (rest : List Placed) → IsPicture h p → ((m : ℕ) → Accepts (Slices h m) rest)
-    → Accepts (InPicture h) (map (placed place.Picture) (p .extras) ++ (map (placed place.Picture) (p .slices) ++ rest))
+    → Accepts (InPicture h) (map (placed scope.Picture) (p .extras) ++ (map (placed scope.Picture) (p .slices) ++ rest))
 picture-passes h p rest k a = extras-pass h (p .extras) _ (k .extras) (first-slices-pass h (p .slices) rest (k .some-slice) (k .slices) (λ w. rising-from-zero (h .rows) (p .slices) (k .order w)) a)
 
 pictures-pass : (h : SliceRule) (n : ℕ) (ps : List Picture) (rest : List Placed) → All (IsPicture h) ps → ((m : ℕ) → Accepts (Slices h m) rest) → Accepts (Slices h n) (concatMap placedPicture ps ++ rest)
@@ -266,34 +266,34 @@ first-pictures-pass h d (p ∷ ps) rest i k a = subst (Accepts (Head h d)) (sym 
     (InPicture h, first-picture i (k .0 .body), rw i refl, picture-passes h p _ (k .0) (λ m. pictures-pass h m ps rest (k .1) a))
 
 head-extras-pass : (h : SliceRule) (d : Bool) (xs : List StreamUnit) (rest : List Placed) → All (HeadExtra) xs → AtMostOne (DisplayUnit) xs → (d ≡ true → All (λ u. ¬ DisplayUnit u) xs)
-    → ((d : Bool) → Accepts (Head h d) rest) → Accepts (Head h d) (map (placed place.Head) xs ++ rest)
+    → ((d : Bool) → Accepts (Head h d) rest) → Accepts (Head h d) (map (placed scope.Head) xs ++ rest)
 head-extras-pass h d [] rest k one none a = a d
 head-extras-pass h d (x ∷ xs) rest k one none a = by-kind d (k .0) none (λ d none. head-extras-pass h d xs rest (k .1) (one .1) none a)
   where
     Tail : Bool → Type 0
-    Tail d = (d ≡ true → All (λ u. ¬ DisplayUnit u) xs) → Accepts (Head h d) (map (placed place.Head) xs ++ rest)
+    Tail d = (d ≡ true → All (λ u. ¬ DisplayUnit u) xs) → Accepts (Head h d) (map (placed scope.Head) xs ++ rest)
 
     by-number : (d : Bool) → Dec (HasNumber (x .body) 2) → IsKind kind.Extension x → Extension (x .body) → (HasNumber (x .body) 2 → IsDisplay (x .body))
-        → (d ≡ true → All (λ u. ¬ DisplayUnit u) (x ∷ xs)) → ((d : Bool) → Tail d) → Accepts (Head h d) (map (placed place.Head) (x ∷ xs) ++ rest)
+        → (d ≡ true → All (λ u. ¬ DisplayUnit u) (x ∷ xs)) → ((d : Bool) → Tail d) → Accepts (Head h d) (map (placed scope.Head) (x ∷ xs) ++ rest)
     by-number false (yes n) c e g none t = (Head h true, display c e n (g n), rw c refl, t true (λ z. one .0 (c, n)))
     by-number true (yes n) c e g none t = absurd (none refl .0 (c, n))
     by-number d (no n) c e g none t = (Head h d, extension c e n, rw c refl, t d (λ z. none z .1))
 
-    by-kind : (d : Bool) → HeadExtra x → (d ≡ true → All (λ u. ¬ DisplayUnit u) (x ∷ xs)) → ((d : Bool) → Tail d) → Accepts (Head h d) (map (placed place.Head) (x ∷ xs) ++ rest)
+    by-kind : (d : Bool) → HeadExtra x → (d ≡ true → All (λ u. ¬ DisplayUnit u) (x ∷ xs)) → ((d : Bool) → Tail d) → Accepts (Head h d) (map (placed scope.Head) (x ∷ xs) ++ rest)
     by-kind d (inl c) none t = (Head h d, user c, rw c refl, t d (λ z. none z .1))
     by-kind d (inr k) none t = by-number d (two-or-not (x .body)) (k .0) (k .1) (k .2) none t
 
 group-passes : (g : Group) (rest : List Placed) (k : IsGroup g) → ((h : SliceRule) (n : ℕ) → Accepts (Slices h n) rest)
-    → Accepts (Head (sliceRule (k .header)) false) (map (placed place.Head) (g .extras) ++ (concatMap placedPicture (g .pictures) ++ rest))
+    → Accepts (Head (sliceRule (k .header)) false) (map (placed scope.Head) (g .extras) ++ (concatMap placedPicture (g .pictures) ++ rest))
 group-passes g rest k a = head-extras-pass _ false (g .extras) _ (k .extras) (k .one-display) no-false
     (λ d. first-pictures-pass _ d (g .pictures) rest (k .first) (k .pictures) (a _))
 
-groups-pass : (h : SliceRule) (n : ℕ) (gs : List Group) (e : List StreamUnit) → All (IsGroup) gs → IsEnding e → Accepts (Slices h n) (concatMap placedGroup gs ++ map (placed place.Picture) e)
+groups-pass : (h : SliceRule) (n : ℕ) (gs : List Group) (e : List StreamUnit) → All (IsGroup) gs → IsEnding e → Accepts (Slices h n) (concatMap placedGroup gs ++ map (placed scope.Picture) e)
 groups-pass h n [] e k i = ending-passes h n e i
-groups-pass h n (g ∷ gs) e k i = subst (Accepts (Slices h n)) (sym (groups-marks g gs (map (placed place.Picture) e)))
+groups-pass h n (g ∷ gs) e k i = subst (Accepts (Slices h n)) (sym (groups-marks g gs (map (placed scope.Picture) e)))
     (Head (sliceRule (k .0 .header)) false, next-sequence (k .0 .kind) (k .0 .body), refl, group-passes g _ (k .0) (λ h n. groups-pass h n gs e (k .1) i))
 
-pub complete : (gs : List Group) (e : List StreamUnit) → gs ≢ [] → All (IsGroup) gs → IsEnding e → Accepts Start (concatMap placedGroup gs ++ map (placed place.Picture) e)
+pub complete : (gs : List Group) (e : List StreamUnit) → gs ≢ [] → All (IsGroup) gs → IsEnding e → Accepts Start (concatMap placedGroup gs ++ map (placed scope.Picture) e)
 complete [] e n k i = absurd (n refl)
-complete (g ∷ gs) e n k i = subst (Accepts Start) (sym (groups-marks g gs (map (placed place.Picture) e)))
+complete (g ∷ gs) e n k i = subst (Accepts Start) (sym (groups-marks g gs (map (placed scope.Picture) e)))
     (Head (sliceRule (k .0 .header)) false, sequence (k .0 .kind) (k .0 .body), refl, group-passes g _ (k .0) (λ h n. groups-pass h n gs e (k .1) i))

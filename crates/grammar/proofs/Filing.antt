@@ -12,13 +12,13 @@ use Rattle.answers.specs.Results.{good, bad}
 use Rattle.bits.proofs.TestLaws.{by-test}
 use Rattle.answers.proofs.OutcomeLaws.{not-done, done-one}
 use Rattle.answers.proofs.ResultLaws.{not-good, good-same, map-good}
-use Rattle.layout.specs.declared.Place.{Place}
-use Rattle.layout.specs.declared.Place.the-variants as place
+use Rattle.bodies.specs.declared.Scope.{Scope}
+use Rattle.bodies.specs.declared.Scope.the-variants as scope
 use Rattle.startcode.specs.Prefix.{begins}
 use Rattle.grammar.specs.Lists.{concatMap}
 use Rattle.grammar.specs.Grammar.{StreamUnit, bytes, Picture, Group, Reading, pictureUnits, groupUnits, units, Reads}
 use Rattle.grammar.specs.Rows.{Row, Placed, placed, placedPicture, placedGroup, placedUnits, rowsFrom, rows}
-use Rattle.grammar.specs.Reader.{cut, placeIn, final, step, Walk, stopAt, addUnit, continue, walkFrom, walkOfAny, walk, said, filing}
+use Rattle.grammar.specs.Reader.{cut, scopeIn, final, step, Walk, stopAt, addUnit, continue, walkFrom, walkOfAny, walk, said, filing}
 use Rattle.grammar.specs.declared.Step.{Step}
 use Rattle.grammar.specs.declared.Step.the-variants.{Go as go, Stop as stop}
 use Rattle.answers.specs.Limits.{longestStream}
@@ -32,7 +32,7 @@ use Rattle.grammar.proofs.StepLaws.{step-sound, step-complete}
 abbrev pub unitOf : Placed → StreamUnit
 unitOf m = m .unit
 
-map-placed : (b : Place) (us : List StreamUnit) → map unitOf (map (placed b) us) ≡ us
+map-placed : (b : Scope) (us : List StreamUnit) → map unitOf (map (placed b) us) ≡ us
 map-placed b [] = refl
 map-placed b (u ∷ us) = rw (map-placed b us)
 
@@ -41,11 +41,11 @@ map-concat g f k h [] = refl
 map-concat g f k h (a ∷ l) = map-append g (f a) (concatMap f l) ∙ rw (h a, map-concat g f k h l)
 
 group-units : (g : Group) → map unitOf (placedGroup g) ≡ groupUnits g
-group-units g = ap (λ (l : List StreamUnit). g .head ∷ l) (map-append unitOf (map (placed place.Head) (g .extras)) (concatMap placedPicture (g .pictures))
-    ∙ rw (map-placed place.Head (g .extras), map-concat unitOf placedPicture pictureUnits (λ p. map-placed place.Picture (pictureUnits p)) (g .pictures)))
+group-units g = ap (λ (l : List StreamUnit). g .head ∷ l) (map-append unitOf (map (placed scope.Head) (g .extras)) (concatMap placedPicture (g .pictures))
+    ∙ rw (map-placed scope.Head (g .extras), map-concat unitOf placedPicture pictureUnits (λ p. map-placed scope.Picture (pictureUnits p)) (g .pictures)))
 
 pub units-of-placed : (r : Reading) → map unitOf (placedUnits r) ≡ units r
-units-of-placed r = map-append unitOf (concatMap placedGroup (r .groups)) (map (placed place.Picture) (r .ending)) ∙ rw (map-concat unitOf placedGroup groupUnits group-units (r .groups), map-placed place.Picture (r .ending))
+units-of-placed r = map-append unitOf (concatMap placedGroup (r .groups)) (map (placed scope.Picture) (r .ending)) ∙ rw (map-concat unitOf placedGroup groupUnits group-units (r .groups), map-placed scope.Picture (r .ending))
 
 -- ── units from a state on ──
 
@@ -54,7 +54,7 @@ record Walked (q : State) (cs : List (List ℕ)) (ms : List Placed) : Type 0 whe
   chunks-are : cs ≡ map chunk (map unitOf ms)
   accepts : Accepts q ms
 
-more-walked : (q q′ : State) (u : StreamUnit) (cs : List (List ℕ)) (ms ms′ : List Placed) → step q u ≡ go q′ → placed (placeIn q u) u ∷ ms′ ≡ ms → Walked q′ cs ms′ → Walked q (chunk u ∷ cs) ms
+more-walked : (q q′ : State) (u : StreamUnit) (cs : List (List ℕ)) (ms ms′ : List Placed) → step q u ≡ go q′ → placed (scopeIn q u) u ∷ ms′ ≡ ms → Walked q′ cs ms′ → Walked q (chunk u ∷ cs) ms
 more-walked q q′ u cs ms ms′ s e w = subst (Walked q (chunk u ∷ cs)) e
     (record { chunks-are = ap (λ (l : List (List ℕ)). chunk u ∷ l) (w .chunks-are); accepts = (q′, step-sound q u q′ s, refl, w .accepts) })
 
@@ -74,16 +74,16 @@ walked-sound ((c ∷ b) ∷ cs) q at ms e = by-step (step q u) refl (λ q′ ms�
     u = record { code = c; body = b }
 
     by-step : (s : Step) → step q u ≡ s → ((q′ : State) (ms′ : List Placed) → walkFrom cs q′ (at + length (bytes u)) ≡ good ms′ → Walked q′ cs ms′)
-        → continue s at (λ q′. addUnit (placed (placeIn q u) u) (walkFrom cs q′ (at + length (bytes u)))) ≡ good ms → Walked q ((c ∷ b) ∷ cs) ms
+        → continue s at (λ q′. addUnit (placed (scopeIn q u) u) (walkFrom cs q′ (at + length (bytes u)))) ≡ good ms → Walked q ((c ∷ b) ∷ cs) ms
     by-step (stop why) s ih e = not-good e
-    by-step (go q′) s ih e = let a = map-good (λ ms. placed (placeIn q u) u ∷ ms) (walkFrom cs q′ (at + length (bytes u))) ms e in more-walked q q′ u cs ms (a .0) s (a .2) (ih q′ (a .0) (a .1))
+    by-step (go q′) s ih e = let a = map-good (λ ms. placed (scopeIn q u) u ∷ ms) (walkFrom cs q′ (at + length (bytes u))) ms e in more-walked q q′ u cs ms (a .0) s (a .2) (ih q′ (a .0) (a .1))
 
 walked-complete : (ms : List Placed) (q : State) (at : ℕ) → Accepts q ms → walkFrom (map chunk (map unitOf ms)) q at ≡ good ms
 unfolding walkFrom
 walked-complete [] q at a = rw a refl
 walked-complete (m ∷ ms) q at a = rw (step-complete (a .1))
-    (ap (addUnit (placed (placeIn q (m .unit)) (m .unit))) (walked-complete ms (a .0) (at + length (bytes (m .unit))) (a .3))
-    ∙ ap (λ (b : Place). good (placed b (m .unit) ∷ ms)) (sym (a .2)))
+    (ap (addUnit (placed (scopeIn q (m .unit)) (m .unit))) (walked-complete ms (a .0) (at + length (bytes (m .unit))) (a .3))
+    ∙ ap (λ (b : Scope). good (placed b (m .unit) ∷ ms)) (sym (a .2)))
 
 -- ── streams of any length ──
 

@@ -20,7 +20,7 @@ use Rattle.grammar.specs.Lists.{concatMap}
 use Rattle.grammar.specs.Grammar.{StreamUnit, bytes, Alone, units}
 use Rattle.grammar.specs.Rows.{Placed, placed, placedUnits, rowsFrom}
 use Rattle.grammar.specs.Reasons.{reasonNumber, ByNumber}
-use Rattle.grammar.specs.Reader.{cut, final, step, placeIn, Stopped, Walk, stopAt, addUnit, continue, walkFrom, walkOfAny, walk, said, filing, within, walkInto, filingInto}
+use Rattle.grammar.specs.Reader.{cut, final, step, scopeIn, Stopped, Walk, stopAt, addUnit, continue, walkFrom, walkOfAny, walk, said, filing, within, walkInto, filingInto}
 use Rattle.grammar.specs.declared.Step.{Step}
 use Rattle.grammar.specs.declared.Step.the-variants.{Go as go, Stop as stop}
 use Rattle.grammar.specs.Refusals.{HasCode, Stops, unended, cut as cut-short, overlap, breaks, StopsAt, Refuses, too-long, no-code, in-unit, RefusesInto, refuses as refuses-filing, full}
@@ -85,10 +85,10 @@ module _ (all : List (List ℕ)) (s : Stopped) where
 
       by-step : (x : Step) → step q u ≡ x
           → ((q′ : State) → At (us ++ u ∷ []) q′ → all ≡ map chunk (us ++ u ∷ []) ++ cs → at + length (bytes u) ≡ length (concatMap bytes (us ++ u ∷ [])) → walkFrom cs q′ (at + length (bytes u)) ≡ bad s → Stuck all s)
-          → continue x at (λ q′. addUnit (placed (placeIn q u) u) (walkFrom cs q′ (at + length (bytes u)))) ≡ bad s → Stuck all s
+          → continue x at (λ q′. addUnit (placed (scopeIn q u) u) (walkFrom cs q′ (at + length (bytes u)))) ≡ bad s → Stuck all s
       by-step (stop why) x ih e = let (w, l) = stopped-as why at s e in record { us = us; state = q; rest = chunk u ∷ cs; is = i; at = a; now = at-unit u cs refl (x ∙ ap stop (sym w)); offset = l ∙ p }
       by-step (go q′) x ih e = ih q′ (more a (step-sound q u q′ x)) (i ∙ sym (chunks-more us u cs)) (ap (λ (k : ℕ). k + length (bytes u)) p ∙ sym (offset-more us u))
-          (map-bad (λ ms. placed (placeIn q u) u ∷ ms) (walkFrom cs q′ (at + length (bytes u))) s e)
+          (map-bad (λ ms. placed (scopeIn q u) u ∷ ms) (walkFrom cs q′ (at + length (bytes u))) s e)
 
 stops-now : (q : State) (cs : List (List ℕ)) (why : Reason) (at : ℕ) → StopsNow q cs why → walkFrom cs q at ≡ stopAt why at
 unfolding walkFrom
@@ -102,7 +102,7 @@ unfolding walkFrom
 unstuck start cs s e = e
 unstuck (more {us} {q} {q′} {u} a g) cs s e =
     ap (λ (l : List (List ℕ)). walkFrom l Start 0) (chunks-more us u cs)
-    ∙ unstuck a (chunk u ∷ cs) s (rw (step-complete g) (ap (addUnit (placed (placeIn q u) u)) (ap (walkFrom cs q′) (sym (offset-more us u)) ∙ e)))
+    ∙ unstuck a (chunk u ∷ cs) s (rw (step-complete g) (ap (addUnit (placed (scopeIn q u) u)) (ap (walkFrom cs q′) (sym (offset-more us u)) ∙ e)))
 
 -- ── streams of any length ──
 

@@ -16,15 +16,17 @@ use Rattle.bits.proofs.TestLaws.{by-test, contrary, and-true}
 use Rattle.startcode.specs.Kinds.{kindOf}
 use Rattle.startcode.specs.declared.Kind.{Kind}
 use Rattle.startcode.specs.declared.Kind.the-variants as kind
-use Rattle.layout.specs.Extensions.{numbered, HasNumber}
-use Rattle.layout.specs.Reader.{headerResult, extensionResult, displayShort, displayOf, allZero}
-use Rattle.layout.specs.Breaks.{Breaks as BreaksLayout, BreaksDisplay, BreaksExtension}
+use Rattle.bodies.specs.Extensions.{numbered, HasNumber}
+use Rattle.layout.specs.Reader.{allZero}
+use Rattle.bodies.specs.Reader.{headerResult, extensionResult, displayShort, displayOf}
+use Rattle.layout.specs.Breaks.{Breaks as BreaksLayout}
+use Rattle.bodies.specs.Breaks.{BreaksDisplay, BreaksExtension}
 use Rattle.layout.specs.declared.Fault.{Fault}
 use Rattle.layout.specs.declared.Fault.the-variants as fault
 use Rattle.layout.specs.declared.Layout.the-variants.{Header}
-use Rattle.layout.specs.declared.Place.the-variants as place
-use Rattle.layout.specs.declared.SequenceHeader.{SequenceHeader}
-use Rattle.layout.proofs.BreakAnswers.{short-iff, long-iff, header-bad, display-bad, extension-bad}
+use Rattle.bodies.specs.declared.Scope.the-variants as scope
+use Rattle.bodies.specs.declared.SequenceHeader.{SequenceHeader}
+use Rattle.bodies.proofs.BreakLaws.{short-iff, long-iff, header-bad, display-bad, extension-bad}
 use Rattle.grammar.specs.Lists.{AtMostOne}
 use Rattle.grammar.specs.Grammar.{StreamUnit, IsKind, Alone, Nonzero, DisplayUnit, sliceRule}
 use Rattle.grammar.specs.Reader.{guard, by, sameKind, choose, headerStep, headExtension, pictureExtension, pictureStep, sliceStep, endingStep, table, step}
@@ -134,7 +136,7 @@ not-both {us = us} h p =
     elim (p .3) [ inl i ↦ apart kind.IPicture kind.SequenceHeader refl i c | inr b ↦ apart kind.PBPicture kind.SequenceHeader refl b c ]
 
 picture-extension-iff : (us : List StreamUnit) (rule : SliceRule) → AfterPicture us → (u : StreamUnit) (why : Reason) → (pictureExtension rule (u .body) ≡ stop why) ↔ BreaksBody kind.Extension us u why
-picture-extension-iff us rule a u why = let k = by-iff (extensionResult place.Picture (u .body)) (λ x. InPicture rule) (BreaksExtension place.Picture (u .body)) (extension-bad place.Picture (u .body)) why in
+picture-extension-iff us rule a u why = let k = by-iff (extensionResult scope.Picture (u .body)) (λ x. InPicture rule) (BreaksExtension scope.Picture (u .body)) (extension-bad scope.Picture (u .body)) why in
     ((λ e. inr (a, k .0 e)), λ b. elim b [ inl h ↦ not-both (h .1) a | inr f ↦ k .1 (f .1) ])
 
 -- one more is at most one exactly where there was none
@@ -156,8 +158,8 @@ module _ (rule : SliceRule) (d : Bool) (extras : List StreamUnit) (shown : (d �
   shown-iff : (by (displayOf (u .body)) (λ x. Head rule true) ≡ stop why) ↔ OfBody (BreaksDisplay (u .body)) why
   shown-iff = by-iff (displayOf (u .body)) (λ x. Head rule true) (BreaksDisplay (u .body)) (display-bad (u .body)) why
 
-  other-iff : (by (extensionResult place.Head (u .body)) (λ x. Head rule d) ≡ stop why) ↔ OfBody (BreaksExtension place.Head (u .body)) why
-  other-iff = by-iff (extensionResult place.Head (u .body)) (λ x. Head rule d) (BreaksExtension place.Head (u .body)) (extension-bad place.Head (u .body)) why
+  other-iff : (by (extensionResult scope.Head (u .body)) (λ x. Head rule d) ≡ stop why) ↔ OfBody (BreaksExtension scope.Head (u .body)) why
+  other-iff = by-iff (extensionResult scope.Head (u .body)) (λ x. Head rule d) (BreaksExtension scope.Head (u .body)) (extension-bad scope.Head (u .body)) why
 
   head-stops : headExtension rule d (u .body) ≡ stop why → BadHeadExtension extras u why
   head-stops e =

@@ -14,9 +14,9 @@ use Rattle.bits.proofs.TestLaws.{by-test, contrary, and-true}
 use Rattle.startcode.specs.Kinds.{kindOf}
 use Rattle.startcode.specs.declared.Kind.{Kind}
 use Rattle.startcode.specs.declared.Kind.the-variants as kind
-use Rattle.layout.specs.Extensions.{numbered, HasNumber, isOpaque}
-use Rattle.layout.specs.declared.Place.{Place}
-use Rattle.layout.specs.declared.Place.the-variants.{Head, Picture}
+use Rattle.bodies.specs.Extensions.{numbered, HasNumber, isOpaque}
+use Rattle.bodies.specs.declared.Scope.{Scope}
+use Rattle.bodies.specs.declared.Scope.the-variants.{Head, Picture}
 use Rattle.grammar.specs.Rows.{Placed, placedUnits, rowsFrom, kept, trimmed, wholeBody, isWhole, rowLength, Opaque, Whole, Trimmed, LengthIs}
 use Rattle.grammar.specs.Grammar.{bytes, Reading, units}
 use Rattle.grammar.proofs.Filing.{unitOf, units-of-placed}
@@ -63,7 +63,7 @@ trims body = let h = ends body in record { first = trimmed body; zeros = h .zero
 never : (n : ℕ) (body : List ℕ) → n < 16 → ¬ HasNumber body n → numbered n body ≡ false
 never n body l h = by-test (numbered n body) (λ t. absurd (h (record { small = l; bits = t }))) (λ f. f)
 
-opaque-iff : (p : Place) (body : List ℕ) → (isOpaque p body ≡ true) ↔ Opaque p body
+opaque-iff : (p : Scope) (body : List ℕ) → (isOpaque p body ≡ true) ↔ Opaque p body
 unfolding isOpaque
 opaque-iff Head body = (
   (λ t. let (a, b) = and-true (not (numbered 4 body)) (not (numbered 2 body)) t in
@@ -79,7 +79,7 @@ whole-iff : (p : Placed) → (isWhole p ≡ true) ↔ Whole p
 whole-iff p = by-outcome (kindOf (p .unit .code)) refl
   where
     Says : Outcome Kind → Type 0
-    Says o = (wholeBody o (p .place) (p .unit .body) ≡ true) ↔ Whole p
+    Says o = (wholeBody o (p .scope) (p .unit .body) ≡ true) ↔ Whole p
 
     other : (k : Kind) → kindOf (p .unit .code) ≡ done k → sameKind k kind.UserData ≡ false → sameKind k kind.Extension ≡ false → ¬ Whole p
     other k e d x (inl u) = apart k kind.UserData d e u
@@ -90,7 +90,7 @@ whole-iff p = by-outcome (kindOf (p .unit .code)) refl
 
     by-outcome : (o : Outcome Kind) → kindOf (p .unit .code) ≡ o → Says o
     by-outcome (done kind.UserData) e = ((λ t. inl e), λ w. refl)
-    by-outcome (done kind.Extension) e = let i = opaque-iff (p .place) (p .unit .body) in
+    by-outcome (done kind.Extension) e = let i = opaque-iff (p .scope) (p .unit .body) in
         ((λ t. inr (e, i .0 t)), λ w. elim w [ inl u ↦ apart kind.Extension kind.UserData refl e u | inr h ↦ i .1 (h .1) ])
     by-outcome (done kind.Slice) e = (no, λ w. absurd (other kind.Slice e refl refl w))
     by-outcome (done kind.SequenceHeader) e = (no, λ w. absurd (other kind.SequenceHeader e refl refl w))

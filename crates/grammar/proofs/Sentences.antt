@@ -9,14 +9,15 @@ use native.Mathlib.Omega.{arith}
 use Rattle.bits.specs.Lists.{All}
 use Rattle.bits.specs.Bits.{bitsIn, bitsOf, readOn, readAt}
 use Rattle.bits.proofs.ListLaws.{all-append, absent}
-use Rattle.layout.specs.Reader.{recordOf, headerResult, allows, valuesOf, judge, judged, cross, ended, reading}
+use Rattle.layout.specs.Reader.{allows, valuesOf, judge, judged, cross, ended, reading}
+use Rattle.bodies.specs.Reader.{recordOf, headerResult}
 use Rattle.layout.specs.Layouts.{fields, leastBytes}
 use Rattle.layout.specs.Obeys.{AllAllowed}
 use Rattle.answers.specs.Results.{good}
-use Rattle.layout.specs.Records.{headerRecord}
+use Rattle.bodies.specs.Records.{headerRecord}
 use Rattle.layout.specs.declared.Layout.the-variants.{Header}
-use Rattle.layout.specs.declared.Place.the-variants as place
-use Rattle.layout.specs.declared.SequenceHeader.{SequenceHeader}
+use Rattle.bodies.specs.declared.Scope.the-variants as scope
+use Rattle.bodies.specs.declared.SequenceHeader.{SequenceHeader}
 use Rattle.macroblocks.specs.Macroblocks.{macroblockRows}
 use Rattle.startcode.specs.Prefix.{begins}
 use Rattle.startcode.specs.Kinds.{kindOf}
@@ -24,7 +25,7 @@ use Rattle.startcode.specs.declared.Kind.{Kind}
 use Rattle.startcode.specs.declared.Kind.the-variants as kind
 use Rattle.grammar.specs.Lists.{concatMap}
 use Rattle.grammar.specs.Grammar.{StreamUnit, bytes, IsKind, Alone, Reading, units, Nonzero, IsHeader, IsPictureHead, DisplayUnit, sliceRule}
-use Rattle.grammar.specs.Reader.{cut, sameKind, placeIn}
+use Rattle.grammar.specs.Reader.{cut, sameKind, scopeIn}
 use Rattle.grammar.specs.Rows.{Placed, placed, placedUnits}
 use Rattle.grammar.specs.Refusals.{IsSentence, BeginsSentence, Last, IsHead, InHead, AfterPicture, InGroup, NotGreater}
 use Rattle.grammar.specs.declared.SliceRule.{SliceRule}
@@ -222,7 +223,7 @@ accepted-sentence ms a k =
 
 pub sentence-from : {us : List StreamUnit} {q : State} → At us q → (ms : List Placed) → Accepts q ms → All Alone (us ++ map unitOf ms) → IsSentence (us ++ map unitOf ms)
 sentence-from start ms a k = accepted-sentence ms a k
-sentence-from (more {us} {q} {q′} {u} at g) ms a k = rw append-assoc (sentence-from at (placed (placeIn q u) u ∷ ms) (q′, g, refl, a) (rw append-assoc at k))
+sentence-from (more {us} {q} {q′} {u} at g) ms a k = rw append-assoc (sentence-from at (placed (scopeIn q u) u ∷ ms) (q′, g, refl, a) (rw append-assoc at k))
 
 -- ── every state that is reached can be ended ──
 
@@ -294,12 +295,12 @@ Ends q = (ms : List Placed) × Accepts q ms × All Alone (map unitOf ms)
 
 end-slices : (rule : SliceRule) (n : ℕ) → Ends (Slices rule n)
 unfolding cut begins kindOf
-end-slices rule n = (placed place.Picture (empty 0xB1) ∷ [], (Ended, end refl refl, refl, refl), (alone-cut (empty 0xB1) refl, tt))
+end-slices rule n = (placed scope.Picture (empty 0xB1) ∷ [], (Ended, end refl refl, refl, refl), (alone-cut (empty 0xB1) refl, tt))
 
 end-picture : (rule : SliceRule) → SomeRow rule → Ends (InPicture rule)
 unfolding cut begins kindOf
 end-picture rule h = let r = end-slices rule 1 in (
-  placed place.Picture (oneByte 0) ∷ r .0,
+  placed scope.Picture (oneByte 0) ∷ r .0,
   (Slices rule 1, first-slice {u = oneByte 0} (refl, one-nonzero) (λ t. (omega arith, h t)), refl, r .1),
   (alone-cut (oneByte 0) refl, r .2),
 )
@@ -307,7 +308,7 @@ end-picture rule h = let r = end-slices rule 1 in (
 end-head : (rule : SliceRule) (d : Bool) → SomeRow rule → Ends (Head rule d)
 unfolding cut begins kindOf
 end-head rule d h = let r = end-picture rule h in
-    (placed place.Picture (oneByte 0xB3) ∷ r .0, (InPicture rule, first-picture refl one-nonzero, refl, r .1), (alone-cut (oneByte 0xB3) refl, r .2))
+    (placed scope.Picture (oneByte 0xB3) ∷ r .0, (InPicture rule, first-picture refl one-nonzero, refl, r .1), (alone-cut (oneByte 0xB3) refl, r .2))
 
 ruled-row : {us : List StreamUnit} {rule : SliceRule} → Ruled us rule → SomeRow rule
 ruled-row r t = rw (r .is) (some-row (r .group .head .body) (r .header) (r .group .body))
@@ -323,7 +324,7 @@ ends : (us : List StreamUnit) (q : State) → Says us q → Ends q
 unfolding kindOf
 ends us Start s =
     let r = end-head (sliceRule plainHeader) false (λ t. some-row plainBody plainHeader plain-header) in
-    (placed place.Picture plainUnit ∷ r .0, (Head (sliceRule plainHeader) false, sequence refl plain-header, refl, r .1), (plain-alone, r .2))
+    (placed scope.Picture plainUnit ∷ r .0, (Head (sliceRule plainHeader) false, sequence refl plain-header, refl, r .1), (plain-alone, r .2))
 ends us (Head rule d) s = end-head rule d (ruled-row (s .0))
 ends us (InPicture rule) s = end-picture rule (ruled-row (s .0))
 ends us (Slices rule n) s = end-slices rule n

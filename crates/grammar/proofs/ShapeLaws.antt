@@ -14,7 +14,7 @@ use Rattle.startcode.specs.Kinds.{kindOf}
 use Rattle.startcode.specs.Prefix.{begins}
 use Rattle.startcode.specs.declared.Kind.{Kind}
 use Rattle.startcode.specs.declared.Kind.the-variants as kind
-use Rattle.layout.specs.Extensions.{numbered, HasNumber}
+use Rattle.bodies.specs.Extensions.{numbered, HasNumber}
 use Rattle.macroblocks.specs.Macroblocks.{slicesTested}
 use Rattle.grammar.specs.Grammar.{StreamUnit, IsKind, Alone, Extension, sliceRule}
 use Rattle.grammar.specs.Reader.{cut, sameKind, choose, table, step, final}
@@ -26,7 +26,7 @@ use Rattle.grammar.specs.declared.SliceRule.{SliceRule}
 use Rattle.grammar.specs.declared.State.{State}
 use Rattle.grammar.specs.declared.State.the-variants.{Start, Head, Picture as InPicture, Slices, Ended, Closed}
 use Rattle.grammar.proofs.KindLaws.{same-true, kind-or-not}
-use Rattle.layout.proofs.NumberLaws.{number-one}
+use Rattle.bodies.proofs.NumberLaws.{number-one}
 use Rattle.grammar.proofs.Division.{Goes, sequence, user, extension, display, first-picture, extra, first-slice, next-slice, next-picture, next-sequence, end, edit, end-edit, Accepts}
 use Rattle.grammar.proofs.StepLaws.{Some, not-go, step-complete}
 use Rattle.grammar.proofs.Sentences.{At, start, more, Left, sentence-left, sentence-from, begins-iff, plainHeader, plain-header, plainUnit, plain-alone, alone-cut, empty, oneByte, one-nonzero}

@@ -14,12 +14,13 @@ use Rattle.bits.proofs.TestLaws.{by-test, contrary}
 use Rattle.startcode.specs.Kinds.{kindOf}
 use Rattle.startcode.specs.declared.Kind.{Kind}
 use Rattle.startcode.specs.declared.Kind.the-variants as kind
-use Rattle.layout.specs.Extensions.{numbered, HasNumber}
-use Rattle.layout.specs.Reader.{headerResult, extensionResult, displayShort, displayOf, allZero}
+use Rattle.bodies.specs.Extensions.{numbered, HasNumber}
+use Rattle.layout.specs.Reader.{allZero}
+use Rattle.bodies.specs.Reader.{headerResult, extensionResult, displayShort, displayOf}
 use Rattle.layout.specs.declared.Fault.{Fault}
 use Rattle.layout.specs.declared.Fault.the-variants as fault
-use Rattle.layout.specs.declared.Place.the-variants as place
-use Rattle.layout.specs.declared.SequenceHeader.{SequenceHeader}
+use Rattle.bodies.specs.declared.Scope.the-variants as scope
+use Rattle.bodies.specs.declared.SequenceHeader.{SequenceHeader}
 use Rattle.grammar.specs.Grammar.{StreamUnit, IsKind, Nonzero, Extension, IsHeader, IsDisplay, sliceRule}
 use Rattle.grammar.specs.Reader.{isNil, guard, sameKind, choose, byKind, by, headerStep, displayStep, headExtension, pictureExtension, pictureStep, sliceStep, endingStep, table, step}
 use Rattle.grammar.specs.declared.Step.{Step}
@@ -30,7 +31,7 @@ use Rattle.grammar.specs.declared.State.the-variants.{Start, Head, Pictu
 use Rattle.grammar.specs.declared.Reason.{Reason}
 use Rattle.grammar.specs.declared.Reason.the-variants as reason
 use Rattle.grammar.proofs.KindLaws.{same-true}
-use Rattle.layout.proofs.NumberLaws.{number-byte, number-one}
+use Rattle.bodies.proofs.NumberLaws.{number-byte, number-one}
 use Rattle.grammar.proofs.BodyLaws.{header-good, picture-good, head-good, display-good, display-long}
 use Rattle.grammar.proofs.Division.{number-two, number-not-two, Goes, sequence, user, extension, display, first-picture, extra, first-slice, next-slice, next-picture, next-sequence, end, edit, end-edit}
 
@@ -146,13 +147,13 @@ head-step rule d u q c e =
     subst (λ d. Goes (Head rule d) u q) (sym (r .0 .1 .0))
     (subst (Goes (Head rule false) u) (w .2) (display c (display-extension (u .body) n) n (display-good (u .body) .0 (w .0, w .1)))))
     (λ f.
-    let s : by (extensionResult place.Head (u .body)) (λ x. Head rule d) ≡ go q = rw f at e in
-    let w = by-go (extensionResult place.Head (u .body)) (λ x. Head rule d) q s in
+    let s : by (extensionResult scope.Head (u .body)) (λ x. Head rule d) ≡ go q = rw f at e in
+    let w = by-go (extensionResult scope.Head (u .body)) (λ x. Head rule d) q s in
     subst (Goes (Head rule d) u) (w .2) (extension c (head-good (u .body) f .0 (w .0, w .1)) (number-not-two (u .body) .0 f)))
 
 picture-extra : (rule : SliceRule) (u : StreamUnit) (q : State) → IsKind kind.Extension u → pictureExtension rule (u .body) ≡ go q → Goes (InPicture rule) u q
 picture-extra rule u q c e =
-    let w = by-go (extensionResult place.Picture (u .body)) (λ x. InPicture rule) q e in
+    let w = by-go (extensionResult scope.Picture (u .body)) (λ x. InPicture rule) q e in
     subst (Goes (InPicture rule) u) (w .2) (extra (inr (c, picture-good (u .body) .0 (w .0, w .1))))
 
 -- ── from a step to the grammar ──
@@ -203,7 +204,7 @@ step-extension : (rule : SliceRule) (d : Bool) (body : List ℕ) → Extension b
 step-extension rule d body k n =
     let f = number-not-two body .1 n in
     let x = head-good body f .1 k in
-    rw f (goes (extensionResult place.Head body) (λ y. Head rule d) (x .0) (x .1))
+    rw f (goes (extensionResult scope.Head body) (λ y. Head rule d) (x .0) (x .1))
 
 pub step-complete : {q q′ : State} {u : StreamUnit} → Goes q u q′ → step q u ≡ go q′
 unfolding step
@@ -213,7 +214,7 @@ step-complete (extension {u} {h} {d} c k n) = rw c (step-extension h d (u .body)
 step-complete (display {u} {h} c k n d) = rw c (step-display h (u .body) n d)
 step-complete (first-picture {u} {h} c k) = rw c (step-picture h (u .body) k)
 step-complete (extra {u} {h} (inl c)) = rw c refl
-step-complete (extra {u} {h} (inr k)) = let x = picture-good (u .body) .1 (k .1) in rw (k .0) (goes (extensionResult place.Picture (u .body)) (λ y. InPicture h) (x .0) (x .1))
+step-complete (extra {u} {h} (inr k)) = let x = picture-good (u .body) .1 (k .1) in rw (k .0) (goes (extensionResult scope.Picture (u .body)) (λ y. InPicture h) (x .0) (x .1))
 step-complete (first-slice {u} {h} k o) = rw (k .0) (step-slice h 0 u (k .1) o)
 step-complete (next-slice {u} {h} {n} k o) = rw (k .0) (step-slice h n u (k .1) o)
 step-complete (next-picture {u} {h} (inl c) k) = rw c (step-picture h (u .body) k)

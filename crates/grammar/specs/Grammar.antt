@@ -11,11 +11,11 @@ use Rattle.bits.specs.Lists.{All}
 use Rattle.startcode.specs.Kinds.{kindOf}
 use Rattle.startcode.specs.declared.Kind.{Kind}
 use Rattle.startcode.specs.declared.Kind.the-variants as kind
-use Rattle.layout.specs.Extensions.{HasNumber}
+use Rattle.bodies.specs.Extensions.{HasNumber}
 use Rattle.layout.specs.Obeys.{Obeys}
-use Rattle.layout.specs.Records.{headerRecord}
+use Rattle.bodies.specs.Records.{headerRecord}
 use Rattle.layout.specs.declared.Layout.the-variants.{Header, Display, Coloured, Copyright}
-use Rattle.layout.specs.declared.SequenceHeader.{SequenceHeader}
+use Rattle.bodies.specs.declared.SequenceHeader.{SequenceHeader}
 use Rattle.macroblocks.specs.Macroblocks.{macroblockRows, slicesTested}
 use Rattle.grammar.specs.Lists.{AtMostOne, concatMap}
 use Rattle.grammar.specs.declared.SliceRule.{SliceRule}

@@ -12,12 +12,13 @@ use Rattle.startcode.specs.Prefix.{begins}
 use Rattle.startcode.specs.Kinds.{kindOf}
 use Rattle.startcode.specs.declared.Kind.{Kind}
 use Rattle.startcode.specs.declared.Kind.the-variants as kind
-use Rattle.layout.specs.Extensions.{numbered}
-use Rattle.layout.specs.Reader.{headerResult, extensionResult, displayShort, displayOf, allZero}
+use Rattle.bodies.specs.Extensions.{numbered}
+use Rattle.layout.specs.Reader.{allZero}
+use Rattle.bodies.specs.Reader.{headerResult, extensionResult, displayShort, displayOf}
 use Rattle.layout.specs.declared.Fault.{Fault}
 use Rattle.layout.specs.declared.Fault.the-variants as fault
-use Rattle.layout.specs.declared.Place.{Place}
-use Rattle.layout.specs.declared.Place.the-variants as place
+use Rattle.bodies.specs.declared.Scope.{Scope}
+use Rattle.bodies.specs.declared.Scope.the-variants as scope
 use Rattle.grammar.specs.Grammar.{StreamUnit, bytes, sliceRule}
 use Rattle.grammar.specs.Rows.{Row, Placed, placed, rowsFrom}
 use Rattle.grammar.specs.Reasons.{reasonNumber}
@@ -73,10 +74,10 @@ displayStep rule display body =
 
 abbrev pub headExtension : SliceRule → Bool → List ℕ → Step
 headExtension rule display body =
-    cond (numbered 2 body) (displayStep rule display body) (by (extensionResult place.Head body) (λ x. state.Head rule display))
+    cond (numbered 2 body) (displayStep rule display body) (by (extensionResult scope.Head body) (λ x. state.Head rule display))
 
 abbrev pub pictureExtension : SliceRule → List ℕ → Step
-pictureExtension rule body = by (extensionResult place.Picture body) (λ x. state.Picture rule)
+pictureExtension rule body = by (extensionResult scope.Picture body) (λ x. state.Picture rule)
 
 abbrev pub pictureStep : SliceRule → List ℕ → Step
 pictureStep rule body = guard ((allZero body, reason.Body fault.Short) ∷ []) (go (state.Picture rule))
@@ -155,18 +156,18 @@ isKind j (done k) = sameKind k j
 isKind j (refused number carried) = false
 
 -- a unit of this kind, read in this state, stands between a sequence header and the first picture, or elsewhere
-abbrev pub placeOf : State → Outcome Kind → Place
-placeOf state.Start k = place.Picture
-placeOf (state.Head rule display) k = cond (isKind kind.IPicture k) place.Picture place.Head
-placeOf (state.Picture rule) k = place.Picture
-placeOf (state.Slices rule least) k = place.Picture
-placeOf state.Ended k = place.Picture
-placeOf state.Closed k = place.Picture
+abbrev pub placeOf : State → Outcome Kind → Scope
+placeOf state.Start k = scope.Picture
+placeOf (state.Head rule display) k = cond (isKind kind.IPicture k) scope.Picture scope.Head
+placeOf (state.Picture rule) k = scope.Picture
+placeOf (state.Slices rule least) k = scope.Picture
+placeOf state.Ended k = scope.Picture
+placeOf state.Closed k = scope.Picture
 
-abbrev pub placeIn : State → StreamUnit → Place
-placeIn q u = placeOf q (kindOf (u .code))
+abbrev pub scopeIn : State → StreamUnit → Scope
+scopeIn q u = placeOf q (kindOf (u .code))
 
--- ── the walk: the units, each with its place, or why it stops and where ──
+-- ── the walk: the units, each with its scope, or why it stops and where ──
 
 pub record Stopped : Type 0 where
   pub reason : Reason
@@ -192,7 +193,7 @@ walkFrom [] q at = cond (final q) (good []) (stopAt reason.Unended at)
 walkFrom ([] ∷ chunks) q at = stopAt (cond (isNil chunks) reason.Cut reason.Overlap) at
 walkFrom ((code ∷ body) ∷ chunks) q at =
     let u : StreamUnit = record { code = code; body = body } in
-    continue (step q u) at (λ q′. addUnit (placed (placeIn q u) u) (walkFrom chunks q′ (at + length (bytes u))))
+    continue (step q u) at (λ q′. addUnit (placed (scopeIn q u) u) (walkFrom chunks q′ (at + length (bytes u))))
 
 -- a stream of any length
 unfoldable pub walkOfAny : List ℕ → Walk

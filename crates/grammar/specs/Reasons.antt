@@ -2,7 +2,7 @@
 use Prim.Native.Nat.{ℕ}
 use mathlib.Core.Path.{_≡_}
 use Rattle.answers.specs.Answers.{NO-CODE, CUT, OVERLAP, UNKNOWN, OUT-OF-PLACE, VALUE, TWICE, UNENDED, FULL, TOO-LONG}
-use Rattle.layout.specs.Answers.{faultNumber}
+use Rattle.bodies.specs.Answers.{faultNumber}
 use Rattle.grammar.specs.declared.Reason.{Reason}
 use Rattle.grammar.specs.declared.Reason.the-variants as reason
 

@@ -12,13 +12,14 @@ use Rattle.bits.specs.Lists.{All}
 use Rattle.startcode.specs.Kinds.{kindOf}
 use Rattle.startcode.specs.declared.Kind.{Kind}
 use Rattle.startcode.specs.declared.Kind.the-variants as kind
-use Rattle.layout.specs.Extensions.{HasNumber}
-use Rattle.layout.specs.Breaks.{Breaks as BreaksLayout, ShortDisplay, BreaksDisplay, BreaksExtension}
+use Rattle.bodies.specs.Extensions.{HasNumber}
+use Rattle.layout.specs.Breaks.{Breaks as BreaksLayout}
+use Rattle.bodies.specs.Breaks.{ShortDisplay, BreaksDisplay, BreaksExtension}
 use Rattle.layout.specs.declared.Fault.{Fault}
 use Rattle.layout.specs.declared.Fault.the-variants as fault
 use Rattle.layout.specs.declared.Layout.the-variants.{Header}
-use Rattle.layout.specs.declared.Place.the-variants as place
-use Rattle.layout.specs.declared.SequenceHeader.{SequenceHeader}
+use Rattle.bodies.specs.declared.Scope.the-variants as scope
+use Rattle.bodies.specs.declared.SequenceHeader.{SequenceHeader}
 use Rattle.macroblocks.specs.Macroblocks.{macroblockRows, slicesTested}
 use Rattle.grammar.specs.Lists.{AtMostOne, concatMap}
 use Rattle.grammar.specs.Grammar.{StreamUnit, bytes, IsKind, Alone, Reading, units, IsHeader, Nonzero, IsPictureHead, DisplayUnit, Reads}
@@ -116,7 +117,7 @@ pub data BadHeadExtension (extras : List StreamUnit) (u : StreamUnit) (why : Rea
   short : HasNumber (u .body) 2 → ShortDisplay (u .body) → why ≡ reason.Body fault.Short → BadHeadExtension extras u why
   twice : HasNumber (u .body) 2 → ¬ ShortDisplay (u .body) → ¬ AtMostOne DisplayUnit (extras ++ u ∷ []) → why ≡ reason.Twice → BadHeadExtension extras u why
   fields : HasNumber (u .body) 2 → ¬ ShortDisplay (u .body) → AtMostOne DisplayUnit (extras ++ u ∷ []) → OfBody (BreaksDisplay (u .body)) why → BadHeadExtension extras u why
-  other : ¬ HasNumber (u .body) 2 → OfBody (BreaksExtension place.Head (u .body)) why → BadHeadExtension extras u why
+  other : ¬ HasNumber (u .body) 2 → OfBody (BreaksExtension scope.Head (u .body)) why → BadHeadExtension extras u why
 
 -- after the units us, a unit of this kind that is in place breaks a rule of its body, and this is the first
 abbrev pub BreaksBody : Kind → List StreamUnit → StreamUnit → Reason → Type 0
@@ -127,7 +128,7 @@ BreaksBody kind.UserData us u why = ⊥
 BreaksBody kind.IPicture us u why = NoNonzero (u .body) why
 BreaksBody kind.Extension us u why =
     ((extras : List StreamUnit) × InHead us extras × BadHeadExtension extras u why)
-    ⊎ (AfterPicture us × OfBody (BreaksExtension place.Picture (u .body)) why)
+    ⊎ (AfterPicture us × OfBody (BreaksExtension scope.Picture (u .body)) why)
 BreaksBody kind.PBPicture us u why = NoNonzero (u .body) why
 BreaksBody kind.EditCode us u why = NotEmpty (u .body) why
 

@@ -10,9 +10,9 @@ use Rattle.answers.specs.Answers.{Outcome, done, refused}
 use Rattle.startcode.specs.Kinds.{kindOf}
 use Rattle.startcode.specs.declared.Kind.{Kind}
 use Rattle.startcode.specs.declared.Kind.the-variants as kind
-use Rattle.layout.specs.Extensions.{HasNumber, isOpaque}
-use Rattle.layout.specs.declared.Place.{Place}
-use Rattle.layout.specs.declared.Place.the-variants as place
+use Rattle.bodies.specs.Extensions.{HasNumber, isOpaque}
+use Rattle.bodies.specs.declared.Scope.{Scope}
+use Rattle.bodies.specs.declared.Scope.the-variants as scope
 use Rattle.grammar.specs.Lists.{concatMap}
 use Rattle.grammar.specs.Grammar.{StreamUnit, bytes, IsKind, Picture, Group, Reading, pictureUnits}
 
@@ -21,23 +21,23 @@ pub record Row : Type 0 where
   pub offset : ℕ
   pub length : ℕ
 
--- ── the units of a reading, each with its place: between a sequence header and the first picture, or elsewhere ──
+-- ── the units of a reading, each with its scope: between a sequence header and the first picture, or elsewhere ──
 
 pub record Placed : Type 0 where
-  pub place : Place
+  pub scope : Scope
   pub unit : StreamUnit
 
-abbrev pub placed : Place → StreamUnit → Placed
-placed p u = record { place = p; unit = u }
+abbrev pub placed : Scope → StreamUnit → Placed
+placed p u = record { scope = p; unit = u }
 
 abbrev pub placedPicture : Picture → List Placed
-placedPicture p = map (placed place.Picture) (pictureUnits p)
+placedPicture p = map (placed scope.Picture) (pictureUnits p)
 
 abbrev pub placedGroup : Group → List Placed
-placedGroup g = placed place.Picture (g .head) ∷ map (placed place.Head) (g .extras) ++ concatMap placedPicture (g .pictures)
+placedGroup g = placed scope.Picture (g .head) ∷ map (placed scope.Head) (g .extras) ++ concatMap placedPicture (g .pictures)
 
 abbrev pub placedUnits : Reading → List Placed
-placedUnits r = concatMap placedGroup (r .groups) ++ map (placed place.Picture) (r .ending)
+placedUnits r = concatMap placedGroup (r .groups) ++ map (placed scope.Picture) (r .ending)
 
 -- ── lengths ──
 
@@ -51,7 +51,7 @@ trimmed [] = []
 trimmed (x ∷ xs) = kept x (trimmed xs)
 
 -- user data and opaque extensions
-abbrev pub wholeBody : Outcome Kind → Place → List ℕ → Bool
+abbrev pub wholeBody : Outcome Kind → Scope → List ℕ → Bool
 wholeBody (done kind.Slice) p body = false
 wholeBody (done kind.SequenceHeader) p body = false
 wholeBody (done kind.SequenceEnd) p body = false
@@ -63,7 +63,7 @@ wholeBody (done kind.EditCode) p body = false
 wholeBody (refused number carried) p body = false
 
 abbrev pub isWhole : Placed → Bool
-isWhole p = wholeBody (kindOf (p .unit .code)) (p .place) (p .unit .body)
+isWhole p = wholeBody (kindOf (p .unit .code)) (p .scope) (p .unit .body)
 
 -- The length is the body without its trailing zero bytes, but the whole body for user data and opaque extensions.
 unfoldable pub rowLength : Placed → ℕ
@@ -87,12 +87,12 @@ words (r ∷ rs) = r .code ∷ r .offset ∷ r .length ∷ words rs
 -- ── what a row's length is, with nothing computed ──
 
 -- the number is not 4, and not 2 in a group's head
-abbrev pub Opaque : Place → List ℕ → Type 0
-Opaque p body = (¬ HasNumber body 4) × (p ≡ place.Head → ¬ HasNumber body 2)
+abbrev pub Opaque : Scope → List ℕ → Type 0
+Opaque p body = (¬ HasNumber body 4) × (p ≡ scope.Head → ¬ HasNumber body 2)
 
 -- user data and opaque extensions
 abbrev pub Whole : Placed → Type 0
-Whole p = IsKind kind.UserData (p .unit) ⊎ (IsKind kind.Extension (p .unit) × Opaque (p .place) (p .unit .body))
+Whole p = IsKind kind.UserData (p .unit) ⊎ (IsKind kind.Extension (p .unit) × Opaque (p .scope) (p .unit .body))
 
 -- the body is n bytes and zeros after them, and the last of the n is not 0
 pub record Trimmed (body : List ℕ) (n : ℕ) : Type 0 where

@@ -13,15 +13,15 @@ use Rattle.bits.proofs.ListLaws.{all-append, all-map, absent}
 use Rattle.bits.proofs.TestLaws.{by-test}
 use Rattle.startcode.specs.declared.Kind.{Kind}
 use Rattle.startcode.specs.declared.Kind.the-variants as kind
-use Rattle.layout.specs.Answers.{Extension, display, copyright, opaque}
-use Rattle.layout.specs.Extensions.{numbered}
-use Rattle.layout.specs.Obeys.{DisplayBody, plain, coloured}
-use Rattle.layout.specs.Reader.{answerOf, headerOf, extensionOf}
-use Rattle.layout.specs.declared.DisplayExtension.{DisplayExtension}
-use Rattle.layout.specs.declared.Place.the-variants as place
-use Rattle.layout.specs.declared.SequenceHeader.{SequenceHeader}
-use Rattle.layout.proofs.ExtensionLaws.{plain-made, coloured-made, display-number, coloured-number}
-use Rattle.layout.proofs.Main.{display-iff}
+use Rattle.bodies.specs.Answers.{Extension, display, copyright, opaque}
+use Rattle.bodies.specs.Extensions.{numbered}
+use Rattle.bodies.specs.Bodies.{DisplayBody, plain, coloured}
+use Rattle.bodies.specs.Reader.{answerOf, headerOf, extensionOf}
+use Rattle.bodies.specs.declared.DisplayExtension.{DisplayExtension}
+use Rattle.bodies.specs.declared.Scope.the-variants as scope
+use Rattle.bodies.specs.declared.SequenceHeader.{SequenceHeader}
+use Rattle.bodies.proofs.ExtensionLaws.{plain-made, coloured-made, display-number, coloured-number}
+use Rattle.bodies.proofs.Main.{display-iff}
 use Rattle.grammar.specs.Lists.{AtMostOne, concatMap}
 use Rattle.grammar.specs.Grammar.{StreamUnit, IsKind, Picture, Group, pictureUnits, groupUnits, IsHeader, IsDisplay, PictureExtra, IsSlice, IsPictureHead, IsPicture, HeadExtra, DisplayUnit, FirstIsI, IsGroup, IsEnding, sliceRule}
 use Rattle.grammar.specs.Reader.{sameKind, isKind}
@@ -110,15 +110,15 @@ unfolding displayIn
 other u us (inl c) n = ap (λ o. inHead o (u .body) (displayIn us)) c
 other u us (inr h) n =
     ap (λ o. inHead o (u .body) (displayIn us)) (h .0)
-    ∙ shown-other (extensionOf place.Head (u .body)) (displayIn us)
-    (λ d e. n (h .0, number-two (u .body) .0 (display-two (u .body) d (display-iff place.Head (u .body) d .0 e .1))))
+    ∙ shown-other (extensionOf scope.Head (u .body)) (displayIn us)
+    (λ d e. n (h .0, number-two (u .body) .0 (display-two (u .body) d (display-iff scope.Head (u .body) d .0 e .1))))
 
 -- a display extension
 display-unit : (u : StreamUnit) (us : List StreamUnit) (d : DisplayExtension) → DisplayUnit u → DisplayBody (u .body) d → displayIn (u ∷ us) ≡ Given d
 unfolding displayIn
 display-unit u us d h b =
     ap (λ o. inHead o (u .body) (displayIn us)) (h .0)
-    ∙ ap (λ (o : Outcome Extension). shown o (displayIn us)) (display-iff place.Head (u .body) d .1 (refl, b))
+    ∙ ap (λ (o : Outcome Extension). shown o (displayIn us)) (display-iff scope.Head (u .body) d .1 (refl, b))
 
 -- none of the head's units is one
 none-shown : (extras tail : List StreamUnit) → displayIn tail ≡ NotGiven → All HeadExtra extras → All (λ u. ¬ DisplayUnit u) extras → displayIn (extras ++ tail) ≡ NotGiven

@@ -12,8 +12,8 @@ use Rattle.answers.proofs.OutcomeLaws.{not-done, not-refused, undone}
 use Rattle.answers.proofs.ResultLaws.{not-good}
 use Rattle.bits.proofs.TestLaws.{by-test}
 use Rattle.startcode.specs.Prefix.{begins}
-use Rattle.layout.specs.Reader.{headerOf}
-use Rattle.layout.specs.declared.SequenceHeader.{SequenceHeader}
+use Rattle.bodies.specs.Reader.{headerOf}
+use Rattle.bodies.specs.declared.SequenceHeader.{SequenceHeader}
 use Rattle.grammar.specs.Grammar.{StreamUnit, Reading, Reads, units}
 use Rattle.grammar.specs.Rows.{Placed, placedUnits}
 use Rattle.grammar.specs.Reasons as reasons

@@ -15,7 +15,7 @@ use Rattle.startcode.specs.Prefix.{begins, nextPrefix}
 use Rattle.startcode.specs.declared.Kind.{Kind}
 use Rattle.startcode.specs.declared.Kind.the-variants as kind
 use Rattle.startcode.proofs.PrefixLaws.{search-start, search-hit}
-use Rattle.layout.specs.Reader.{headerOf}
+use Rattle.bodies.specs.Reader.{headerOf}
 use Rattle.grammar.specs.Grammar.{StreamUnit}
 use Rattle.grammar.specs.Reader.{cut, sameKind}
 use Rattle.grammar.proofs.WalkLaws.{prefix-fits, chunks-cut, chunks-overlap, unitBetween, next-fits, chunks-unit, next-begins}

@@ -8,9 +8,9 @@ use lib.ListN.{length}
 use Rattle.answers.specs.Answers.{Outcome, done, refused, NO-ROW}
 use Rattle.answers.specs.Limits.{longestStream}
 use Rattle.bits.specs.Lists.{All}
-use Rattle.layout.specs.Obeys.{DisplayBody}
-use Rattle.layout.specs.declared.DisplayExtension.{DisplayExtension}
-use Rattle.layout.specs.declared.SequenceHeader.{SequenceHeader}
+use Rattle.bodies.specs.Bodies.{DisplayBody}
+use Rattle.bodies.specs.declared.DisplayExtension.{DisplayExtension}
+use Rattle.bodies.specs.declared.SequenceHeader.{SequenceHeader}
 use Rattle.grammar.specs.Grammar.{StreamUnit, Group, Reading, Reads, IsHeader, DisplayUnit}
 use Rattle.grammar.specs.Reasons as reasons
 use Rattle.grammar.specs.Refusals.{Refuses}

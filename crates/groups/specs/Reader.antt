@@ -6,10 +6,10 @@ use Rattle.answers.specs.Answers.{Outcome, done, refused, andThen, NO-ROW}
 use Rattle.startcode.specs.Kinds.{kindOf}
 use Rattle.startcode.specs.declared.Kind.{Kind}
 use Rattle.startcode.specs.declared.Kind.the-variants as kind
-use Rattle.layout.specs.Answers.{Extension, display, copyright, opaque}
-use Rattle.layout.specs.Reader.{headerOf, extensionOf}
-use Rattle.layout.specs.declared.Place.the-variants as place
-use Rattle.layout.specs.declared.SequenceHeader.{SequenceHeader}
+use Rattle.bodies.specs.Answers.{Extension, display, copyright, opaque}
+use Rattle.bodies.specs.Reader.{headerOf, extensionOf}
+use Rattle.bodies.specs.declared.Scope.the-variants as scope
+use Rattle.bodies.specs.declared.SequenceHeader.{SequenceHeader}
 use Rattle.grammar.specs.Grammar.{StreamUnit}
 use Rattle.grammar.specs.Reader.{isKind, walk, said}
 use Rattle.groups.specs.Groups.{GroupRecord}
@@ -30,7 +30,7 @@ inHead (done kind.SequenceHeader) body rest = displayed.NotGiven
 inHead (done kind.SequenceEnd) body rest = displayed.NotGiven
 inHead (done kind.UserData) body rest = rest
 inHead (done kind.IPicture) body rest = displayed.NotGiven
-inHead (done kind.Extension) body rest = shown (extensionOf place.Head body) rest
+inHead (done kind.Extension) body rest = shown (extensionOf scope.Head body) rest
 inHead (done kind.PBPicture) body rest = displayed.NotGiven
 inHead (done kind.EditCode) body rest = displayed.NotGiven
 inHead (refused number carried) body rest = displayed.NotGiven

@@ -1,16 +1,16 @@
 // Group g of a stream: its header record, with the display extension given or not given.
+use bodies::DisplayExtension;
+use bodies::ExtensionAnswer;
+use bodies::HeaderAnswer;
+use bodies::Scope;
+use bodies::SequenceHeader;
 use filing::Checked;
 use filing::Refusal;
-use layout::DisplayExtension;
-use layout::ExtensionAnswer;
-use layout::HeaderAnswer;
-use layout::Place;
-use layout::SequenceHeader;
 use startcode::Kind;
 use startcode::UnitKind;
 ghost use mathlib.Core.Path.{_≡_};
 ghost use Rattle.answers.specs.Answers.{done};
-ghost use Rattle.layout.specs.Reader.{headerOf, extensionOf};
+ghost use Rattle.bodies.specs.Reader.{headerOf, extensionOf};
 ghost use Rattle.startcode.specs.Kinds.{kindOf};
 ghost use Rattle.grammar.specs.Reader.{isKind};
 ghost use Rattle.groups.specs.Groups.{groupSays};
@@ -58,9 +58,9 @@ fn begins_group(code: u8) -> bool
 }
 
 fn head_extension(body: &[u8]) -> InHead
-    ensures { λ r. ⌜ Tells r (shown (extensionOf Place.Head (now (body .entry)))) ⌝ }
+    ensures { λ r. ⌜ Tells r (shown (extensionOf Scope.Head (now (body .entry)))) ⌝ }
 {
-    match layout::extension(body, Place::Head) {
+    match bodies::extension(body, Scope::Head) {
         ExtensionAnswer::Display(d) => InHead::Display(d),
         ExtensionAnswer::Copyright(_) => InHead::Other,
         ExtensionAnswer::Opaque(_) => InHead::Other,
@@ -125,7 +125,7 @@ fn group_here(stream: &[u8], body: &[u8], from: usize) -> GroupAnswer
     requires { ⌜ Here (now stream) from ⌝ }
     ensures { λ r. ⌜ groupSays r ≡ groupOf (headerOf (now (body .entry))) (displayIn (unitsFrom (now (stream .entry)) from)) ⌝ }
 {
-    match layout::sequence_header(body) {
+    match bodies::sequence_header(body) {
         HeaderAnswer::Header(header) => GroupAnswer::Group(header, display_from(stream, from)),
         HeaderAnswer::Refused(_) => GroupAnswer::NoRow,
     }

@@ -18,10 +18,10 @@ use Rattle.bits.proofs.TestLaws.{by-test, contrary}
 use Rattle.bits.proofs.BitLaws.{length-bits, never-wide}
 use Rattle.bits.proofs.Main.{missing-exactly}
 use Rattle.layout.specs.Layouts.{nameOf, widthOf, ruleOf, Allowed, byRule, faultAt, fields, bitCount, leastBytes}
-use Rattle.layout.specs.Records.{copyrightRecord}
+use Rattle.layout.specs.Values.{Ownership, ownership}
 use Rattle.layout.specs.Obeys.{Fits, AllAllowed, written}
 use Rattle.layout.specs.Breaks.{Holds, FirstWrong, Disowned, unflagged, unowned, BreaksAcross, Breaks, short, wrong, across, ended}
-use Rattle.layout.specs.Reader.{allows, Result, _>>_, refuseIf, both, valuesOf, judge, ownerRules, crossRecord, cross, judged, stuffing, reading}
+use Rattle.layout.specs.Reader.{allows, Result, _>>_, refuseIf, both, valuesOf, judge, ownerRules, ownedBy, cross, judged, stuffing, reading}
 use Rattle.answers.specs.Results.{good, bad, _>>=_}
 use Rattle.layout.specs.Reader as reader
 use Rattle.layout.specs.declared.Name.{Name}
@@ -35,11 +35,10 @@ use Rattle.layout.specs.declared.Fault.{Fault}
 use Rattle.layout.specs.declared.Fault.the-variants as fault
 use Rattle.layout.specs.declared.Verdict.{Verdict}
 use Rattle.layout.specs.declared.Verdict.the-variants.{Fine, Faulty}
-use Rattle.layout.specs.declared.CopyrightExtension.{CopyrightExtension}
 use Rattle.layout.proofs.LayoutLaws.{table, fits-length, spelled}
 use Rattle.layout.proofs.ReadingLaws.{values-first}
 use Rattle.layout.proofs.JudgeLaws.{checked, reading-short, reading-long}
-use Rattle.layout.proofs.RecordLaws.{unowned-rules, owned-rules}
+use Rattle.layout.proofs.OwnerLaws.{unowned-rules, owned-rules}
 use Rattle.layout.proofs.ObeyLaws.{fine-then, both-fine, read-written, written-read, written-length, allowed-if, if-allowed, judge-fine, fine-judge, cross-fine, fine-cross, stuffing-is, is-stuffing}
 
 -- ── a body that is long enough has all its values ──
@@ -166,7 +165,7 @@ if-same : (t : Bool) (a why : Fault) → refuseIf t a ≡ Faulty why → (t ≡ 
 if-same true a why e = (refl, sym (faulty-same a why e))
 if-same false a why e = let z : _≡_ {A = ℕ} 0 1 = cc in absurd (omega arith)
 
-disowned : (c : CopyrightExtension) (why : Fault) → ownerRules c ≡ Faulty why → Disowned c why
+disowned : (c : Ownership) (why : Fault) → ownerRules c ≡ Faulty why → Disowned c why
 disowned c why e =
     by-test (eqb (c .owner) 0)
     (λ t.
@@ -178,33 +177,33 @@ disowned c why e =
     let r = if-same (eqb (c .flag) 0) (fault.Value Owner 5) why (sym (owned-rules c o refl) ∙ e) in
     unflagged (eqb-true (c .flag) 0 (r .0)) o (r .1))
 
-disowned-rules : (c : CopyrightExtension) (why : Fault) → Disowned c why → ownerRules c ≡ Faulty why
+disowned-rules : (c : Ownership) (why : Fault) → Disowned c why → ownerRules c ≡ Faulty why
 disowned-rules c why (unflagged f o e) = owned-rules c o (eq-eqb (c .flag) 0 f) ∙ ap Faulty (sym e)
 disowned-rules c why (unowned o n e) = unowned-rules c o (ne-eqb (c .number) 0 n) ∙ ap Faulty (sym e)
 
 -- the record is there, since there are as many values as fields
-across-record : (vs : List ℕ) (o : Option CopyrightExtension) (why : Fault) → copyrightRecord vs ≡ o → crossRecord o ≡ Faulty why → (copyrightRecord vs ≡ none → ⊥) →
-    (c : CopyrightExtension) × (copyrightRecord vs ≡ some c) × Disowned c why
+across-record : (vs : List ℕ) (o : Option Ownership) (why : Fault) → ownership vs ≡ o → ownedBy o ≡ Faulty why → (ownership vs ≡ none → ⊥) →
+    (c : Ownership) × (ownership vs ≡ some c) × Disowned c why
 across-record vs none why e f n = absurd (n e)
 across-record vs (some c) why e f n = (c, e, disowned c why f)
 
-record-there : (vs : List ℕ) → length vs ≡ 11 → copyrightRecord vs ≡ none → ⊥
-unfolding copyrightRecord
-record-there vs h e = let z : _≡_ {A = ℕ} 0 1 = cc (sym (ap copyrightRecord (spelled 11 vs h)) ∙ e) in omega arith
+record-there : (vs : List ℕ) → length vs ≡ 11 → ownership vs ≡ none → ⊥
+unfolding ownership
+record-there vs h e = let z : _≡_ {A = ℕ} 0 1 = cc (sym (ap ownership (spelled 11 vs h)) ∙ e) in omega arith
 
 cross-broken : (layout : Layout) (vs : List ℕ) (why : Fault) → Fits (fields layout) vs → cross layout vs ≡ Faulty why → BreaksAcross layout vs why
 unfolding cross BreaksAcross fields
 cross-broken Header vs why h e = let z : _≡_ {A = ℕ} 0 1 = cc in omega arith
 cross-broken Display vs why h e = let z : _≡_ {A = ℕ} 0 1 = cc in omega arith
 cross-broken Coloured vs why h e = let z : _≡_ {A = ℕ} 0 1 = cc in omega arith
-cross-broken Copyright vs why h e = across-record vs (copyrightRecord vs) why refl e (record-there vs (fits-length (fields Copyright) vs h))
+cross-broken Copyright vs why h e = across-record vs (ownership vs) why refl e (record-there vs (fits-length (fields Copyright) vs h))
 
 broken-cross : (layout : Layout) (vs : List ℕ) (why : Fault) → BreaksAcross layout vs why → cross layout vs ≡ Faulty why
 unfolding cross BreaksAcross
 broken-cross Header vs why h = absurd h
 broken-cross Display vs why h = absurd h
 broken-cross Coloured vs why h = absurd h
-broken-cross Copyright vs why h = ap crossRecord (h .1) ∙ disowned-rules (h .0) why (h .2)
+broken-cross Copyright vs why h = ap ownedBy (h .1) ∙ disowned-rules (h .0) why (h .2)
 
 -- ── the whole ──
 
@@ -265,7 +264,7 @@ rule-not-short (rule.But one) n at e = let z : _≡_ {A = ℕ} 0 1 = cc in omega
 rule-not-short (rule.Within least greatest) n at e = let z : _≡_ {A = ℕ} 0 1 = cc in omega arith
 rule-not-short (rule.WithinBut least greatest one) n at e = let z : _≡_ {A = ℕ} 0 1 = cc in omega arith
 
-disowned-not-short : (c : CopyrightExtension) → Disowned c fault.Short → ⊥
+disowned-not-short : (c : Ownership) → Disowned c fault.Short → ⊥
 disowned-not-short c (unflagged f o e) = let z : _≡_ {A = ℕ} 0 1 = cc in omega arith
 disowned-not-short c (unowned o n e) = let z : _≡_ {A = ℕ} 0 1 = cc in omega arith
 

@@ -3,35 +3,17 @@ use Prim.Native.Nat.{ℕ, _*_, _≤_, _<_}
 use mathlib.Core.Path.{_≡_, refl, sym, ap, _∙_}
 use mathlib.Core.List.{List}
 use mathlib.Core.Bool.{Bool, not}
-use mathlib.Core.Option.{some}
 use borrow.Author.Tests.{lt-ltb, le-ltb}
 use lib.ListN.{length, drop}
 use Rattle.bits.specs.Bits.{bitsOf}
 use Rattle.layout.specs.Layouts.{fields, bitCount, leastBytes}
-use Rattle.layout.specs.Records.{copyrightRecord}
-use Rattle.layout.specs.Reader.{Result, _>>_, refuseIf, both, valuesOf, judge, ownerRules, crossRecord, cross, judged, stuffing, ended, reading}
+use Rattle.layout.specs.Reader.{Result, _>>_, refuseIf, both, valuesOf, judge, cross, judged, stuffing, ended, reading}
 use Rattle.answers.specs.Results.{good, bad, _>>=_}
-use Rattle.layout.specs.Inside.{verdictSays}
+use Rattle.layout.specs.Answers.{verdictSays}
 use Rattle.layout.specs.declared.Layout.{Layout}
-use Rattle.layout.specs.declared.Layout.the-variants.{Copyright}
 use Rattle.layout.specs.declared.Fault.the-variants.{Short, Stuffing}
 use Rattle.layout.specs.declared.Verdict.{Verdict}
 use Rattle.layout.specs.declared.Verdict.the-variants.{Fine}
-use Rattle.layout.specs.declared.CopyrightExtension.{CopyrightExtension}
-
--- ── values ──
-
-pub judged-by : (layout : Layout) (vs : List ℕ) (first : Verdict) → first ≡ judge (fields layout) 0 vs → both first (cross layout vs) ≡ judged layout vs
-unfolding judged
-judged-by layout vs first e = ap (λ (v : Verdict). both v (cross layout vs)) e
-
--- the fields are fine: the rules across them decide
-pub judged-cross : (layout : Layout) (vs : List ℕ) (first : Verdict) → first ≡ judge (fields layout) 0 vs → first ≡ Fine → cross layout vs ≡ judged layout vs
-judged-cross layout vs first e f = ap (λ (v : Verdict). both v (cross layout vs)) (sym f) ∙ judged-by layout vs first e
-
-pub cross-copyright : (layout : Layout) (vs : List ℕ) (c : CopyrightExtension) → layout ≡ Copyright → copyrightRecord vs ≡ some c → ownerRules c ≡ cross layout vs
-unfolding cross
-cross-copyright layout vs c e r = sym (ap (λ (l : Layout). cross l vs) e ∙ ap crossRecord r)
 
 -- ── the end ──
 

@@ -1,14 +1,10 @@
--- The laws that the proofs cite, and the theorems.
+-- The laws that the proofs cite, each file named by what they are about, and the theorems.
 pub mod LayoutLaws
-pub mod NumberLaws
 pub mod ReadingLaws
 pub mod EndLaws
-pub mod RecordLaws
+pub mod OwnerLaws
 pub mod JudgeLaws
 pub mod ObeyLaws
 pub mod BreakLaws
-pub mod AnswerLaws
-pub mod ExtensionLaws
-pub mod BreakAnswers
-pub mod SaysLaws
+pub mod TakenLaws
 pub mod Main

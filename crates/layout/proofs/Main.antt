@@ -1,39 +1,21 @@
--- What is proved of bodies beyond the contracts of the functions.
+-- What is proved of bodies and their layouts beyond the contract of reading.
 use Prim.Native.Nat.{ℕ, _<_}
-use mathlib.Core.Path.{_≡_, sym, ap, _∙_}
-use mathlib.Core.Logic.{_↔_, _≢_}
-use mathlib.Core.List.{List, []}
-use mathlib.Core.Bool.{true}
-use lib.ListN.{length, getD}
+use mathlib.Core.Path.{_≡_, sym, _∙_}
+use mathlib.Core.Logic.{_↔_}
+use mathlib.Core.List.{List}
+use lib.ListN.{length}
 use Rattle.answers.proofs.ResultLaws.{good-same}
-use Rattle.answers.specs.Answers.{done, refused, OneToOne, SHORT}
-use Rattle.bits.specs.Bits.{bitsOf, bitAt}
-use Rattle.bits.specs.declared.Bit.the-variants.{Is}
+use Rattle.answers.specs.Results.{good, bad}
 use Rattle.layout.specs.Layouts.{leastBytes}
-use Rattle.layout.specs.Extensions.{HasNumber, isOpaque}
-use Rattle.layout.specs.Obeys.{Obeys, HeaderBody, DisplayBody, CopyrightBody}
-use Rattle.layout.specs.Breaks.{Holds, Breaks, ShortDisplay, BreaksExtension}
-use Rattle.layout.specs.Reader.{reading, answerOf, headerResult, headerOf, displayShort, extensionResult, extensionOf}
-use Rattle.answers.specs.Results.{Result, good, bad}
-use Rattle.layout.specs.Answers.{faultNumber, headerGives, headerSays, display, copyright, opaque, extensionGives, extensionSays}
+use Rattle.layout.specs.Obeys.{Obeys}
+use Rattle.layout.specs.Breaks.{Breaks}
+use Rattle.layout.specs.Reader.{reading}
 use Rattle.layout.specs.declared.Layout.{Layout}
-use Rattle.layout.specs.declared.Layout.the-variants.{Header, Display, Coloured, Copyright}
 use Rattle.layout.specs.declared.Fault.{Fault}
 use Rattle.layout.specs.declared.Fault.the-variants as fault
-use Rattle.layout.specs.declared.SequenceHeader.{SequenceHeader}
-use Rattle.layout.specs.declared.DisplayExtension.{DisplayExtension}
-use Rattle.layout.specs.declared.CopyrightExtension.{CopyrightExtension}
-use Rattle.layout.specs.declared.Place.{Place}
-use Rattle.layout.specs.declared.Place.the-variants.{Head}
-use Rattle.layout.proofs.NumberLaws.{opaque-test}
 use Rattle.layout.proofs.JudgeLaws.{reading-short}
 use Rattle.layout.proofs.ObeyLaws.{obeys-if, if-obeys}
 use Rattle.layout.proofs.BreakLaws.{breaks-if, if-breaks, short-if}
-use Rattle.layout.proofs.BreakAnswers as breaks
-use Rattle.layout.proofs.ExtensionLaws as laws
-use Rattle.layout.proofs.SaysLaws as says
-
--- ── any layout ──
 
 -- Reading gives values exactly where the body obeys its layout with them.
 pub obeys-iff : (layout : Layout) (body vs : List ℕ) → (reading layout body ≡ good vs) ↔ Obeys layout body vs
@@ -50,84 +32,3 @@ breaks-iff layout body why = (breaks-if layout body why, if-breaks layout body w
 -- SHORT is given exactly for a body of fewer bytes than asked for.
 pub short-iff : (layout : Layout) (body : List ℕ) → (reading layout body ≡ bad fault.Short) ↔ (length body < leastBytes layout)
 short-iff layout body = (short-if layout body, reading-short layout body)
-
--- What reading gives is answered, and nothing else is: what is said of answers below holds of readings.
-pub answered-iff : {A : Type 0} (r : Result Fault A) (a : A) → (answerOf r ≡ done a) ↔ (r ≡ good a)
-unfolding answerOf
-answered-iff r a = (laws.answer-done r a, ap answerOf)
-
--- ── sequence header ──
-
--- The record is that of the body's values, and is answered exactly where the body obeys.
-pub header-iff : (body : List ℕ) (h : SequenceHeader) → (headerOf body ≡ done h) ↔ HeaderBody body h
-header-iff body h = (laws.header-if body h, laws.if-header body h)
-
--- Reading finds the body faulty exactly for what breaks the layout, field and bit with it.
-pub header-faulty-iff : (body : List ℕ) (why : Fault) → (headerResult body ≡ bad why) ↔ Breaks Header body why
-header-faulty-iff = breaks.header-bad
-
--- A refusal has the number of that.
-pub header-refused-iff : (body : List ℕ) (number : ℕ) → (headerOf body ≡ refused number []) ↔ ((why : Fault) × Breaks Header body why × (number ≡ faultNumber why))
-unfolding headerOf
-header-refused-iff body = breaks.refused-iff (headerResult body) (Breaks Header body) (breaks.header-bad body)
-
--- ── extensions ──
-
--- A display record is answered in a group's head, exactly for the bodies of display extensions.
-pub display-iff : (place : Place) (body : List ℕ) (d : DisplayExtension) → (extensionOf place body ≡ done (display d)) ↔ ((place ≡ Head) × DisplayBody body d)
-display-iff place body d = (laws.answers-display place body d, laws.display-answers place body d)
-
--- A copyright record is answered anywhere, exactly for the bodies of copyright extensions.
-pub copyright-iff : (place : Place) (body : List ℕ) (c : CopyrightExtension) → (extensionOf place body ≡ done (copyright c)) ↔ CopyrightBody body c
-copyright-iff place body c = (laws.answers-copyright place body c, laws.copyright-answers place body c)
-
--- Any other number, and number 2 after a picture header, is answered alone.
-pub opaque-iff : (place : Place) (body : List ℕ) (n : ℕ) → (extensionOf place body ≡ done (opaque n)) ↔ (HasNumber body n × (n ≢ 4) × (place ≡ Head → n ≢ 2))
-opaque-iff place body n = (laws.answers-opaque place body n, laws.opaque-answers place body n)
-
--- The test of a body with a number says so too, from four bits.
-pub is-opaque-iff : (place : Place) (body : List ℕ) (n : ℕ) → HasNumber body n → (isOpaque place body ≡ true) ↔ (extensionOf place body ≡ done (opaque n))
-is-opaque-iff place body n h =
-    let t = opaque-test place body n h in
-    let o = opaque-iff place body n in ((λ e. let k = t .0 e in o .1 (h, k .0, k .1)), λ e. let k = o .0 e in t .1 (k .1, k .2))
-
--- Reading finds an extension faulty exactly for what breaks it where it stands, SHORT of a display extension first.
-pub extension-faulty-iff : (place : Place) (body : List ℕ) (why : Fault) → (extensionResult place body ≡ bad why) ↔ BreaksExtension place body why
-extension-faulty-iff = breaks.extension-bad
-
--- A refusal has the number of that.
-pub extension-refused-iff : (place : Place) (body : List ℕ) (number : ℕ) → (extensionOf place body ≡ refused number []) ↔ ((why : Fault) × BreaksExtension place body why × (number ≡ faultNumber why))
-unfolding extensionOf
-extension-refused-iff place body = breaks.refused-iff (extensionResult place body) (BreaksExtension place body) (breaks.extension-bad place body)
-
--- SHORT of a display extension is its own test, so another test can stand between it and the fields.
-pub display-short-iff : (body : List ℕ) → HasNumber body 2 → (extensionOf Head body ≡ refused SHORT []) ↔ (displayShort body ≡ true)
-display-short-iff body h = (breaks.answers-short body h, breaks.short-answers body h)
-
--- It holds exactly for fewer than 6 bytes, or fewer than 9 with colour given.
-pub short-display-iff : (body : List ℕ) → (displayShort body ≡ true) ↔ ShortDisplay body
-short-display-iff = breaks.short-iff
-
--- The number and the colour bit choose the layout, so their fields have the values that it asks for, and are never refused.
-pub display-fixed : (body vs end : List ℕ) → Holds Display body vs end → HasNumber body 2 → bitAt (bitsOf body) 8 ≡ Is 0 → (getD vs 0 0 ≡ 2) × (getD vs 3 0 ≡ 0)
-display-fixed = laws.display-fixed
-
-pub coloured-fixed : (body vs end : List ℕ) → Holds Coloured body vs end → HasNumber body 2 → bitAt (bitsOf body) 8 ≡ Is 1 → (getD vs 0 0 ≡ 2) × (getD vs 3 0 ≡ 1)
-coloured-fixed = laws.coloured-fixed
-
-pub copyright-fixed : (body vs end : List ℕ) → Holds Copyright body vs end → HasNumber body 4 → getD vs 0 0 ≡ 4
-copyright-fixed = laws.copyright-fixed
-
--- ── no two readings give the same, and no two answers say the same ──
-
-pub header-reading-one-to-one : OneToOne headerGives
-header-reading-one-to-one = says.header-gives
-
-pub extension-reading-one-to-one : OneToOne extensionGives
-extension-reading-one-to-one = says.extension-gives
-
-pub header-one-to-one : OneToOne headerSays
-header-one-to-one = says.header-says
-
-pub extension-one-to-one : OneToOne extensionSays
-extension-one-to-one = says.extension-says

@@ -15,13 +15,14 @@ use Rattle.bits.specs.Lists.{All}
 use Rattle.bits.specs.Bits.{bitsIn, bitsOf, payload, readAt}
 use Rattle.bits.specs.declared.Read.{Read}
 use Rattle.bits.specs.declared.Read.the-variants as read
+use Rattle.bits.proofs.ListLaws.{drop-take}
 use Rattle.bits.proofs.TestLaws.{by-test, and-true}
 use Rattle.bits.proofs.BitLaws.{length-in, length-bits}
 use Rattle.bits.proofs.Main.{read-exactly}
 use Rattle.layout.specs.Layouts.{widthOf, ruleOf, Allowed, faultAt, fields, bitCount}
-use Rattle.layout.specs.Records.{copyrightRecord}
+use Rattle.layout.specs.Values.{Ownership, ownership}
 use Rattle.layout.specs.Obeys.{Fits, AllAllowed, Owned, Crossed, written, Obeys}
-use Rattle.layout.specs.Reader.{allows, Result, _>>_, refuseIf, both, readValue, short, valuesOf, judge, ownerRules, crossRecord, cross, judged, allZero, stuffing, ended, reading}
+use Rattle.layout.specs.Reader.{allows, Result, _>>_, refuseIf, both, readValue, short, valuesOf, judge, ownerRules, ownedBy, cross, judged, allZero, stuffing, ended, reading}
 use Rattle.answers.specs.Results.{good, _>>=_}
 use Rattle.layout.specs.declared.Values.{Values}
 use Rattle.layout.specs.declared.Values.the-variants as rule
@@ -33,9 +34,8 @@ use Rattle.layout.specs.declared.Fault.{Fault}
 use Rattle.layout.specs.declared.Fault.the-variants as fault
 use Rattle.layout.specs.declared.Verdict.{Verdict}
 use Rattle.layout.specs.declared.Verdict.the-variants.{Fine, Faulty}
-use Rattle.layout.specs.declared.CopyrightExtension.{CopyrightExtension}
 use Rattle.layout.proofs.LayoutLaws.{table}
-use Rattle.layout.proofs.ReadingLaws.{drop-take, values-first}
+use Rattle.layout.proofs.ReadingLaws.{value-good, values-first}
 use Rattle.layout.proofs.EndLaws.{zeros-are, are-zeros}
 use Rattle.layout.proofs.JudgeLaws.{reading-long}
 
@@ -61,11 +61,6 @@ if-fine false why e = refl
 
 fine-if : (t : Bool) (why : Fault) → t ≡ false → refuseIf t why ≡ Fine
 fine-if t why e = rw e
-
-pub value-good : (x : Read) (v : ℕ) → readValue x ≡ good v → x ≡ read.Value v
-value-good (read.Value n) v e = ap read.Value (good-same e)
-value-good read.Missing v e = not-good e
-value-good read.TooWide v e = not-good e
 
 -- ── values are read exactly where their bits stand ──
 
@@ -171,17 +166,17 @@ implied a b e z = let h : not (eqb b 0) ≡ false = rw (eq-eqb a 0 z) at e in eq
 implies : (a b : ℕ) → (a ≡ 0 → b ≡ 0) → eqb a 0 && not (eqb b 0) ≡ false
 implies a b f = by-test (eqb a 0) (λ t. rw (t, eq-eqb b 0 (f (eqb-true a 0 t)))) (λ n. rw n)
 
-owned-if : (c : CopyrightExtension) → ownerRules c ≡ Fine → Owned c
+owned-if : (c : Ownership) → ownerRules c ≡ Fine → Owned c
 unfolding ownerRules
 owned-if c e =
     let h = both-fine (refuseIf (eqb (c .flag) 0 && not (eqb (c .owner) 0)) (fault.Value Owner 5)) _ e in
     record { unflagged = implied (c .flag) (c .owner) (if-fine _ _ (h .0)); unowned = implied (c .owner) (c .number) (if-fine _ _ (h .1)) }
 
-if-owned : (c : CopyrightExtension) → Owned c → ownerRules c ≡ Fine
+if-owned : (c : Ownership) → Owned c → ownerRules c ≡ Fine
 unfolding ownerRules
 if-owned c h = fine-both _ _ (fine-if _ _ (implies (c .flag) (c .owner) (h .unflagged))) (fine-if _ _ (implies (c .owner) (c .number) (h .unowned)))
 
-record-fine : (o : Option CopyrightExtension) → crossRecord o ≡ Fine → (c : CopyrightExtension) × (o ≡ some c) × Owned c
+record-fine : (o : Option Ownership) → ownedBy o ≡ Fine → (c : Ownership) × (o ≡ some c) × Owned c
 record-fine none e = let z : _≡_ {A = ℕ} 0 1 = cc in absurd (omega arith)
 record-fine (some c) e = (c, refl, owned-if c e)
 
@@ -190,14 +185,14 @@ unfolding cross Crossed
 cross-fine Header vs e = tt
 cross-fine Display vs e = tt
 cross-fine Coloured vs e = tt
-cross-fine Copyright vs e = record-fine (copyrightRecord vs) e
+cross-fine Copyright vs e = record-fine (ownership vs) e
 
 pub fine-cross : (layout : Layout) (vs : List ℕ) → Crossed layout vs → cross layout vs ≡ Fine
 unfolding cross Crossed
 fine-cross Header vs h = refl
 fine-cross Display vs h = refl
 fine-cross Coloured vs h = refl
-fine-cross Copyright vs h = ap crossRecord (h .1) ∙ if-owned (h .0) (h .2)
+fine-cross Copyright vs h = ap ownedBy (h .1) ∙ if-owned (h .0) (h .2)
 
 -- ── the end ──
 

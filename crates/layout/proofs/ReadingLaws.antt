@@ -1,29 +1,30 @@
 -- The laws of reading and judging, over any list of fields.
 use Prim.Native.Nat.{ℕ, zero, suc, _+_, _*_, _<_}
-use mathlib.Core.Path.{_≡_, refl, sym, ap, _∙_}
+use mathlib.Core.Path.{_≡_, refl, sym, ap, _∙_, subst}
 use mathlib.Core.List.{List, [], _∷_, _++_, append-assoc, append-nil}
-use mathlib.Core.Bool.{Bool, true, false, cond}
+use mathlib.Core.Bool.{Bool, true, false, cond, not}
 use native.Mathlib.Numerals.{add-one}
-use native.Mathlib.Nat.{zero-add, suc-add}
 use lib.ListN.{length, take, drop, set}
-use lib.Seq.{take-suc-set, take-nil}
+use lib.Seq.{take-suc-set}
 use lib.Dec.{leb}
 use Rattle.bits.specs.Bits.{readOn, readAt}
 use Rattle.bits.specs.declared.Read.{Read}
+use Rattle.bits.specs.declared.Read.the-variants as read
 use Rattle.bits.specs.declared.Read.the-variants.{Value, TooWide}
+use Rattle.bits.proofs.ListLaws.{drop-take}
+use Rattle.bits.proofs.TestLaws.{by-test}
+use Rattle.answers.proofs.ResultLaws.{not-good, good-same, bind-good}
 use Rattle.layout.specs.Layouts.{widthOf, ruleOf, faultAt}
-use Rattle.layout.specs.Reader.{allows, Result, readValue, valuesOf, judge}
+use Rattle.layout.specs.Reader.{allows, Result, _>>_, refuseIf, readValue, valuesOf, judge}
+use Rattle.layout.specs.Inside.{taken, takenFrom}
 use Rattle.answers.specs.Results.{good, bad, _>>=_}
 use Rattle.layout.specs.declared.Field.{Field}
 use Rattle.layout.specs.declared.Fault.the-variants.{Short}
+use Rattle.layout.specs.declared.Fault.{Fault}
+use Rattle.layout.specs.declared.Verdict.{Verdict}
 use Rattle.layout.specs.declared.Verdict.the-variants.{Fine, Faulty}
 
 -- ── a read looks no further than its end ──
-
-pub drop-take : (a w : ℕ) (l : List ℕ) → drop a (take (a + w) l) ≡ take w (drop a l)
-drop-take zero w l = rw zero-add
-drop-take (suc a) w [] = rw (suc-add a w) (sym (take-nil w))
-drop-take (suc a) w (b ∷ l) = rw (suc-add a w) (drop-take a w l)
 
 take-reads : (acc w : ℕ) (l : List ℕ) → readOn acc w (take w l) ≡ readOn acc w l
 unfolding readOn
@@ -56,39 +57,61 @@ values-first fs gs f at v bits e r =
     ap (λ (l : List Field). valuesOf l at bits) e
     ∙ ap (λ (x : Read). readValue x >>= (λ u. valuesOf gs (at + widthOf f) bits >>= (λ vs. good (u ∷ vs)))) r
 
-pub values-step : (fs gs : List Field) (f : Field) (at i v : ℕ) (bits values : List ℕ) → fs ≡ f ∷ gs → readAt bits at (widthOf f) ≡ Value v → i < length values →
-    onto (take i values) (valuesOf fs at bits) ≡ onto (take (i + 1) (set values i v)) (valuesOf gs (at + widthOf f) bits)
-values-step fs gs f at i v bits values e r h =
-    ap (onto (take i values)) (values-first fs gs f at v bits e r)
-    ∙ onto-more (take i values) v (valuesOf gs (at + widthOf f) bits)
-    ∙ ap (λ (l : List ℕ). onto l (valuesOf gs (at + widthOf f) bits)) (sym (take-suc-set values i v h) ∙ ap (λ (n : ℕ). take n (set values i v)) (sym (add-one i)))
+-- ── values ──
+
+pub value-good : (x : Read) (v : ℕ) → readValue x ≡ good v → x ≡ read.Value v
+value-good (read.Value n) v e = ap read.Value (good-same e)
+value-good read.Missing v e = not-good e
+value-good read.TooWide v e = not-good e
+
+-- ── fields that are read and judged one after another ──
+
+-- a field of which the value is read
+pub taken-value : (f : Field) (at v : ℕ) (bits : List ℕ) → readAt bits at (widthOf f) ≡ Value v →
+    taken f at bits ≡ (refuseIf (not (allows (ruleOf f) v)) (faultAt f at) >> good v)
+unfolding taken
+taken-value f at v bits r = ap (λ (x : Read). readValue x >>= (λ u. refuseIf (not (allows (ruleOf f) u)) (faultAt f at) >> good u)) r
 
 -- a read that failed
-pub values-fail : (fs gs : List Field) (f : Field) (at : ℕ) (l bits : List ℕ) (x : Read) → fs ≡ f ∷ gs → readAt bits at (widthOf f) ≡ x → readValue x ≡ bad Short →
-    onto l (valuesOf fs at bits) ≡ bad Short
-unfolding valuesOf
-values-fail fs gs f at l bits x e r b =
-    ap (λ (gs : List Field). onto l (valuesOf gs at bits)) e
-    ∙ ap (λ (y : Result ℕ). onto l (y >>= (λ u. valuesOf gs (at + widthOf f) bits >>= (λ vs. good (u ∷ vs))))) (ap readValue r ∙ b)
+pub taken-fail : (f : Field) (at : ℕ) (bits : List ℕ) (x : Read) → readAt bits at (widthOf f) ≡ x → readValue x ≡ bad Short → taken f at bits ≡ bad Short
+unfolding taken
+taken-fail f at bits x r b = ap (λ (y : Result ℕ). y >>= (λ u. refuseIf (not (allows (ruleOf f) u)) (faultAt f at) >> good u)) (ap readValue r ∙ b)
 
-pub values-end : (fs : List Field) (at : ℕ) (l bits : List ℕ) → fs ≡ [] → onto l (valuesOf fs at bits) ≡ good l
-unfolding valuesOf
-values-end fs at l bits e = ap (λ (gs : List Field). onto l (valuesOf gs at bits)) e ∙ ap good (append-nil l)
+taken-first : (fs gs : List Field) (f : Field) (at : ℕ) (bits : List ℕ) → fs ≡ f ∷ gs →
+    takenFrom fs at bits ≡ (taken f at bits >>= (λ v. takenFrom gs (at + widthOf f) bits >>= (λ vs. good (v ∷ vs))))
+unfolding takenFrom
+taken-first fs gs f at bits e = ap (λ (l : List Field). takenFrom l at bits) e
 
--- ── the first field that is ruled out ──
+pub taken-step : (fs gs : List Field) (f : Field) (at i v : ℕ) (bits values : List ℕ) → fs ≡ f ∷ gs → taken f at bits ≡ good v → i < length values →
+    onto (take i values) (takenFrom fs at bits) ≡ onto (take (i + 1) (set values i v)) (takenFrom gs (at + widthOf f) bits)
+taken-step fs gs f at i v bits values e r h =
+    ap (onto (take i values)) (taken-first fs gs f at bits e ∙ ap (λ (x : Result ℕ). x >>= (λ v. takenFrom gs (at + widthOf f) bits >>= (λ vs. good (v ∷ vs)))) r)
+    ∙ onto-more (take i values) v (takenFrom gs (at + widthOf f) bits)
+    ∙ ap (λ (l : List ℕ). onto l (takenFrom gs (at + widthOf f) bits)) (sym (take-suc-set values i v h) ∙ ap (λ (n : ℕ). take n (set values i v)) (sym (add-one i)))
 
-pub judge-pass : (fs gs : List Field) (f : Field) (at v : ℕ) (vs us : List ℕ) → fs ≡ f ∷ gs → vs ≡ v ∷ us → allows (ruleOf f) v ≡ true →
-    judge fs at vs ≡ judge gs (at + widthOf f) us
-unfolding judge
-judge-pass fs gs f at v vs us e d t =
-    ap (λ (l : List Field). judge l at vs) e ∙ ap (judge (f ∷ gs) at) d ∙ ap (λ (t : Bool). cond t (judge gs (at + widthOf f) us) (Faulty (faultAt f at))) t
+pub taken-stop : (fs gs : List Field) (f : Field) (at : ℕ) (l bits : List ℕ) (why : Fault) → fs ≡ f ∷ gs → taken f at bits ≡ bad why → onto l (takenFrom fs at bits) ≡ bad why
+taken-stop fs gs f at l bits why e r = ap (onto l) (taken-first fs gs f at bits e ∙ ap (λ (x : Result ℕ). x >>= (λ v. takenFrom gs (at + widthOf f) bits >>= (λ vs. good (v ∷ vs)))) r)
 
-pub judge-fail : (fs gs : List Field) (f : Field) (at v : ℕ) (vs us : List ℕ) → fs ≡ f ∷ gs → vs ≡ v ∷ us → allows (ruleOf f) v ≡ false →
-    judge fs at vs ≡ Faulty (faultAt f at)
-unfolding judge
-judge-fail fs gs f at v vs us e d t =
-    ap (λ (l : List Field). judge l at vs) e ∙ ap (judge (f ∷ gs) at) d ∙ ap (λ (t : Bool). cond t (judge gs (at + widthOf f) us) (Faulty (faultAt f at))) t
+pub taken-end : (fs : List Field) (at : ℕ) (l bits : List ℕ) → fs ≡ [] → onto l (takenFrom fs at bits) ≡ good l
+unfolding takenFrom
+taken-end fs at l bits e = ap (λ (gs : List Field). onto l (takenFrom gs at bits)) e ∙ ap good (append-nil l)
 
-pub judge-end : (fs : List Field) (at : ℕ) (vs : List ℕ) → fs ≡ [] → judge fs at vs ≡ Fine
-unfolding judge
-judge-end fs at vs e = ap (λ (l : List Field). judge l at vs) e
+-- where all values are read, that is judging them
+onto-then : (v : ℕ) (vs : List ℕ) (w : Verdict) → ((w >> good vs) >>= (λ us. good (v ∷ us))) ≡ (w >> good (v ∷ vs))
+onto-then v vs Fine = refl
+onto-then v vs (Faulty why) = refl
+
+pub taken-judged : (fs : List Field) (at : ℕ) (bits vs : List ℕ) → valuesOf fs at bits ≡ good vs → takenFrom fs at bits ≡ (judge fs at vs >> good vs)
+unfolding valuesOf judge takenFrom
+taken-judged [] at bits vs e = ap good (good-same e)
+taken-judged (f ∷ fs) at bits vs e =
+    let first = bind-good (readValue (readAt bits at (widthOf f))) _ vs e in
+    let later = bind-good (valuesOf fs (at + widthOf f) bits) _ vs (first .2) in
+    let v = first .0 in
+    let us = later .0 in
+    let rest = taken-judged fs (at + widthOf f) bits us (later .1) in
+    let here = taken-value f at v bits (value-good (readAt bits at (widthOf f)) v (first .1)) in
+    subst (λ (l : List ℕ). takenFrom (f ∷ fs) at bits ≡ (judge (f ∷ fs) at l >> good l)) (good-same (later .2))
+    (ap (λ (x : Result ℕ). x >>= (λ v. takenFrom fs (at + widthOf f) bits >>= (λ vs. good (v ∷ vs)))) here
+    ∙ ap (λ (x : Result (List ℕ)). (refuseIf (not (allows (ruleOf f) v)) (faultAt f at) >> good v) >>= (λ v. x >>= (λ vs. good (v ∷ vs)))) rest
+    ∙ by-test (allows (ruleOf f) v) (λ t. rw t (onto-then v us (judge fs (at + widthOf f) us))) (λ n. rw n))

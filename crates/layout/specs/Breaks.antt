@@ -2,25 +2,20 @@
 -- then the rules across fields, then the end. No field is read here: its value is the one whose bits stand in the body.
 use Prim.Native.Nat.{ℕ, _+_, _≤_, _<_}
 use mathlib.Core.Path.{_≡_}
-use mathlib.Core.Logic.{_≢_, _⊎_}
+use mathlib.Core.Logic.{_≢_}
 use mathlib.Core.List.{List, [], _∷_, _++_}
 use mathlib.Core.Option.{some}
 use lib.ListN.{length, replicate}
-use Rattle.bits.specs.Bits.{bitsOf, bitAt}
-use Rattle.bits.specs.declared.Bit.the-variants.{Is}
+use Rattle.bits.specs.Bits.{bitsOf}
 use Rattle.layout.specs.Layouts.{ruleOf, Allowed, faultAt, fields, bitCount, leastBytes}
-use Rattle.layout.specs.Records.{copyrightRecord}
+use Rattle.layout.specs.Values.{Ownership, ownership}
 use Rattle.layout.specs.Obeys.{Fits, AllAllowed, Crossed, written}
-use Rattle.layout.specs.Extensions.{HasNumber}
 use Rattle.layout.specs.declared.Name.the-variants.{Owner, CopyrightNumber}
 use Rattle.layout.specs.declared.Field.{Field}
 use Rattle.layout.specs.declared.Layout.{Layout}
 use Rattle.layout.specs.declared.Layout.the-variants.{Header, Display, Coloured, Copyright}
 use Rattle.layout.specs.declared.Fault.{Fault}
 use Rattle.layout.specs.declared.Fault.the-variants as fault
-use Rattle.layout.specs.declared.Place.{Place}
-use Rattle.layout.specs.declared.Place.the-variants.{Head}
-use Rattle.layout.specs.declared.CopyrightExtension.{CopyrightExtension}
 
 -- the body has the bytes asked for, its fields have the values vs, and `end` are the bits after them
 pub record Holds (layout : Layout) (body vs end : List ℕ) : Type 0 where
@@ -43,7 +38,7 @@ pub record FirstWrong (fs : List Field) (at : ℕ) (vs : List ℕ) (why : Fault)
   pub refused : why ≡ faultAt field (at + bitCount before)
 
 -- After the last field of a copyright extension, VALUE if flag 0 with owner not 0, or owner 0 with number not 0.
-pub data Disowned (c : CopyrightExtension) (why : Fault) : Type 0 where
+pub data Disowned (c : Ownership) (why : Fault) : Type 0 where
   unflagged : c .flag ≡ 0 → c .owner ≢ 0 → why ≡ fault.Value Owner 5 → Disowned c why
   unowned : c .owner ≡ 0 → c .number ≢ 0 → why ≡ fault.Value CopyrightNumber 22 → Disowned c why
 
@@ -52,7 +47,7 @@ unfoldable pub BreaksAcross : Layout → List ℕ → Fault → Type 0
 BreaksAcross Header vs why = ⊥
 BreaksAcross Display vs why = ⊥
 BreaksAcross Coloured vs why = ⊥
-BreaksAcross Copyright vs why = (c : CopyrightExtension) × (copyrightRecord vs ≡ some c) × Disowned c why
+BreaksAcross Copyright vs why = (c : Ownership) × (ownership vs ≡ some c) × Disowned c why
 
 -- what a body is refused for
 pub data Breaks (layout : Layout) (body : List ℕ) (why : Fault) : Type 0 where
@@ -61,26 +56,3 @@ pub data Breaks (layout : Layout) (body : List ℕ) (why : Fault) : Type 0 where
   across : (vs end : List ℕ) → Holds layout body vs end → AllAllowed (fields layout) vs → BreaksAcross layout vs why → Breaks layout body why
   ended : (vs end : List ℕ) → Holds layout body vs end → AllAllowed (fields layout) vs → Crossed layout vs →
       ((zeros : ℕ) → end ≢ 1 ∷ replicate zeros 0) → why ≡ fault.Stuffing → Breaks layout body why
-
--- ── extensions ──
-
--- "colour given": bit 8 of a display extension
-abbrev pub ColourGiven : List ℕ → ℕ → Type 0
-ColourGiven body given = bitAt (bitsOf body) 8 ≡ Is given
-
--- "40 or 64 bits, so at least 6 or 9 bytes"
-abbrev pub ShortDisplay : List ℕ → Type 0
-ShortDisplay body = (length body < leastBytes Display) ⊎ (ColourGiven body 1 × (length body < leastBytes Coloured))
-
--- a display extension's body: SHORT, then by its layout
-pub data BreaksDisplay (body : List ℕ) (why : Fault) : Type 0 where
-  short-display : ShortDisplay body → why ≡ fault.Short → BreaksDisplay body why
-  coloured : ¬ ShortDisplay body → ColourGiven body 1 → Breaks Coloured body why → BreaksDisplay body why
-  plain : ¬ ShortDisplay body → ColourGiven body 0 → Breaks Display body why → BreaksDisplay body why
-
--- "An extension body has at least one byte", otherwise SHORT. "Number 4 anywhere is copyright"; "number 2 in a group's head is the
--- display extension"; "any other extension is opaque", and breaks nothing.
-pub data BreaksExtension (place : Place) (body : List ℕ) (why : Fault) : Type 0 where
-  empty : body ≡ [] → why ≡ fault.Short → BreaksExtension place body why
-  copyright : HasNumber body 4 → Breaks Copyright body why → BreaksExtension place body why
-  display : HasNumber body 2 → place ≡ Head → BreaksDisplay body why → BreaksExtension place body why

@@ -1,18 +1,30 @@
 -- What the private functions promise one another; no part of document 01.
-use Prim.Native.Nat.{ℕ}
-use mathlib.Core.List.{List}
-use lib.ListN.{length, take}
-use Rattle.answers.specs.Results.{good, bad}
-use Rattle.layout.specs.Layouts.{fields}
-use Rattle.layout.specs.Reader.{Result}
-use Rattle.layout.specs.declared.Layout.{Layout}
-use Rattle.layout.specs.declared.Verdict.{Verdict}
-use Rattle.layout.specs.declared.Verdict.the-variants.{Fine, Faulty}
-use Rattle.layout.specs.declared.Body.{Body}
+use Prim.Native.Nat.{ℕ, _+_}
+use mathlib.Core.List.{List, [], _∷_}
+use mathlib.Core.Bool.{not}
+use Rattle.answers.specs.Results.{good, bad, _>>=_}
+use Rattle.bits.specs.Bits.{readAt}
+use Rattle.layout.specs.Layouts.{widthOf, ruleOf, faultAt}
+use Rattle.layout.specs.Reader.{Result, _>>_, refuseIf, readValue, allows}
+use Rattle.layout.specs.declared.Field.{Field}
+use Rattle.layout.specs.declared.FieldReading.{FieldReading}
+use Rattle.layout.specs.declared.FieldReading.the-variants as fieldReading
 
-abbrev pub verdictSays : Verdict → List ℕ → Result (List ℕ)
-verdictSays Fine vs = good vs
-verdictSays (Faulty fault) vs = bad fault
+-- a field's value where it is not ruled out
+unfoldable pub taken : Field → ℕ → List ℕ → Result ℕ
+taken f at bits = do
+  v ← readValue (readAt bits at (widthOf f))
+  refuseIf (not (allows (ruleOf f) v)) (faultAt f at)
+  good v
 
-abbrev pub bodySays : Layout → Body → Result (List ℕ)
-bodySays layout body = verdictSays (body .verdict) (take (length (fields layout)) (body .values))
+-- fields read and judged one after another, of which the first begins at bit `at`
+unfoldable pub takenFrom : List Field → ℕ → List ℕ → Result (List ℕ)
+takenFrom [] at bits = good []
+takenFrom (f ∷ fs) at bits = do
+  v ← taken f at bits
+  vs ← takenFrom fs (at + widthOf f) bits
+  good (v ∷ vs)
+
+abbrev pub fieldSays : FieldReading → Result ℕ
+fieldSays (fieldReading.Value v) = good v
+fieldSays (fieldReading.Faulty fault) = bad fault

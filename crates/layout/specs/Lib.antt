@@ -1,9 +1,8 @@
--- What document 01 says of the bodies of sequence headers and extensions.
+-- What document 01 says of the layouts of bodies: the fields, what a body obeys and what it breaks.
 pub mod Layouts
-pub mod Records
+pub mod Values
 pub mod Obeys
-pub mod Extensions
-pub mod Answers
 pub mod Breaks
+pub mod Answers
 pub mod Reader
 pub mod Inside

@@ -7,13 +7,10 @@ use mathlib.Core.Option.{some}
 use lib.ListN.{length, replicate}
 use Rattle.bits.specs.Bits.{bitsIn, bitsOf}
 use Rattle.layout.specs.Layouts.{widthOf, ruleOf, Allowed, fields, leastBytes}
-use Rattle.layout.specs.Records.{headerRecord, plainRecord, colouredRecord, copyrightRecord}
+use Rattle.layout.specs.Values.{Ownership, ownership}
 use Rattle.layout.specs.declared.Field.{Field}
 use Rattle.layout.specs.declared.Layout.{Layout}
 use Rattle.layout.specs.declared.Layout.the-variants.{Header, Display, Coloured, Copyright}
-use Rattle.layout.specs.declared.SequenceHeader.{SequenceHeader}
-use Rattle.layout.specs.declared.DisplayExtension.{DisplayExtension}
-use Rattle.layout.specs.declared.CopyrightExtension.{CopyrightExtension}
 
 -- P holds of each field and its value, and there are as many values as fields
 abbrev pub Each : (Field → ℕ → Type 0) → List Field → List ℕ → Type 0
@@ -31,7 +28,7 @@ unfoldable pub AllAllowed : List Field → List ℕ → Type 0
 AllAllowed = Each (λ f v. Allowed (ruleOf f) v)
 
 -- copyright: flag 0 has owner 0, and owner 0 has number 0
-pub record Owned (c : CopyrightExtension) : Type 0 where
+pub record Owned (c : Ownership) : Type 0 where
   pub unflagged : c .flag ≡ 0 → c .owner ≡ 0
   pub unowned : c .owner ≡ 0 → c .number ≡ 0
 
@@ -40,7 +37,7 @@ unfoldable pub Crossed : Layout → List ℕ → Type 0
 Crossed Header vs = Unit {0}
 Crossed Display vs = Unit {0}
 Crossed Coloured vs = Unit {0}
-Crossed Copyright vs = (c : CopyrightExtension) × (copyrightRecord vs ≡ some c) × Owned c
+Crossed Copyright vs = (c : Ownership) × (ownership vs ≡ some c) × Owned c
 
 -- the bits of values, each in its field's width, one after another
 unfoldable pub written : List Field → List ℕ → List ℕ
@@ -56,22 +53,3 @@ pub record Obeys (layout : Layout) (body vs : List ℕ) : Type 0 where
   pub crossed : Crossed layout vs
   pub zeros : ℕ
   pub bits : bitsOf body ≡ written (fields layout) vs ++ (1 ∷ replicate zeros 0)
-
--- ── bodies with their records ──
-
--- the body of a sequence header
-pub record HeaderBody (body : List ℕ) (h : SequenceHeader) : Type 0 where
-  pub values : List ℕ
-  pub obeys : Obeys Header body values
-  pub recorded : headerRecord values ≡ some h
-
--- the body of a display extension, without colour or with it
-pub data DisplayBody (body : List ℕ) (d : DisplayExtension) : Type 0 where
-  plain : (vs : List ℕ) → Obeys Display body vs → plainRecord vs ≡ some d → DisplayBody body d
-  coloured : (vs : List ℕ) → Obeys Coloured body vs → colouredRecord vs ≡ some d → DisplayBody body d
-
--- the body of a copyright extension
-pub record CopyrightBody (body : List ℕ) (c : CopyrightExtension) : Type 0 where
-  pub values : List ℕ
-  pub obeys : Obeys Copyright body values
-  pub recorded : copyrightRecord values ≡ some c

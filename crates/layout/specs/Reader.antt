@@ -1,20 +1,16 @@
 -- Reading a body by its layout, as a computation: SHORT, then the fields in bit order, then the rules across fields, then STUFFING.
 use Prim.Native.Nat.{ℕ, _+_}
 use mathlib.Core.List.{List, [], _∷_}
-use mathlib.Core.Bool.{Bool, true, false, cond, _&&_, _||_, not}
+use mathlib.Core.Bool.{Bool, true, false, cond, _&&_, not}
 use mathlib.Core.Option.{Option, none, some}
 use lib.ListN.{length, drop}
 use lib.Dec.{eqb, leb, ltb}
-use Rattle.answers.specs.Answers.{Outcome, done, refused}
 use Rattle.answers.specs.Results as results
 use Rattle.answers.specs.Results.{good, bad, _>>=_}
-use Rattle.bits.specs.Bits.{bitsOf, bitAt, readAt, readOr}
-use Rattle.bits.specs.declared.Bit.{Bit}
-use Rattle.bits.specs.declared.Bit.the-variants as bit
+use Rattle.bits.specs.Bits.{bitsOf, readAt, readOr}
 use Rattle.bits.specs.declared.Read.{Read}
 use Rattle.layout.specs.Layouts.{widthOf, ruleOf, faultAt, fields, bitCount, leastBytes}
-use Rattle.layout.specs.Records.{headerRecord, plainRecord, colouredRecord, copyrightRecord}
-use Rattle.layout.specs.Answers.{faultNumber, Extension, display, copyright, opaque}
+use Rattle.layout.specs.Values.{Ownership, ownership}
 use Rattle.layout.specs.declared.Name.the-variants.{Owner, CopyrightNumber}
 use Rattle.layout.specs.declared.Values.{Values}
 use Rattle.layout.specs.declared.Values.the-variants as rule
@@ -25,10 +21,6 @@ use Rattle.layout.specs.declared.Fault.{Fault}
 use Rattle.layout.specs.declared.Fault.the-variants.{Short, Value, Stuffing}
 use Rattle.layout.specs.declared.Verdict.{Verdict}
 use Rattle.layout.specs.declared.Verdict.the-variants.{Fine, Faulty}
-use Rattle.layout.specs.declared.SequenceHeader.{SequenceHeader}
-use Rattle.layout.specs.declared.CopyrightExtension.{CopyrightExtension}
-use Rattle.layout.specs.declared.Place.{Place}
-use Rattle.layout.specs.declared.Place.the-variants as place
 
 infixl 10 _>>_
 -- ── results: what was read, or what is wrong ──
@@ -54,11 +46,6 @@ both (Faulty fault) verdict = Faulty fault
 -- bits that are not there are SHORT; no field is wider than a read
 abbrev pub readValue : Read → Result ℕ
 readValue r = readOr good (bad Short) r
-
--- values that are not there are SHORT
-abbrev pub recorded : {A : Type 0} → Option A → Result A
-recorded none = bad Short
-recorded (some a) = good a
 
 -- ── a body ──
 
@@ -91,22 +78,22 @@ judge (f ∷ fs) at (v ∷ vs) = cond (allows (ruleOf f) v) (judge fs (at + widt
 
 -- After the last field of a copyright extension, VALUE if flag 0 with owner not 0, or owner 0 with number not 0.
 -- Owner begins at bit 5, part one at bit 22.
-unfoldable pub ownerRules : CopyrightExtension → Verdict
+unfoldable pub ownerRules : Ownership → Verdict
 ownerRules c =
     both (refuseIf (eqb (c .flag) 0 && not (eqb (c .owner) 0)) (Value Owner 5))
     (refuseIf (eqb (c .owner) 0 && not (eqb (c .number) 0)) (Value CopyrightNumber 22))
 
 -- values that are not there are SHORT
-abbrev pub crossRecord : Option CopyrightExtension → Verdict
-crossRecord none = Faulty Short
-crossRecord (some c) = ownerRules c
+abbrev pub ownedBy : Option Ownership → Verdict
+ownedBy none = Faulty Short
+ownedBy (some c) = ownerRules c
 
 -- the rules across fields
 unfoldable pub cross : Layout → List ℕ → Verdict
 cross Header vs = Fine
 cross Display vs = Fine
 cross Coloured vs = Fine
-cross Copyright vs = crossRecord (copyrightRecord vs)
+cross Copyright vs = ownedBy (ownership vs)
 
 -- what values are refused for
 unfoldable pub judged : Layout → List ℕ → Verdict
@@ -134,87 +121,3 @@ reading layout body = do
   judged layout vs
   ended layout body
   good vs
-
--- the record that a body's values make, or what is wrong
-unfoldable pub recordOf : {A : Type 0} → Layout → (List ℕ → Option A) → List ℕ → Result A
-recordOf layout make body = do
-  vs ← reading layout body
-  recorded (make vs)
-
--- a result in document 01's terms
-unfoldable pub answerOf : {A : Type 0} → Result A → Outcome A
-answerOf (good a) = done a
-answerOf (bad fault) = refused (faultNumber fault) []
-
--- ── sequence header ──
-
-abbrev pub headerResult : List ℕ → Result SequenceHeader
-headerResult body = recordOf Header headerRecord body
-
--- what reading a sequence header's body answers
-unfoldable pub headerOf : List ℕ → Outcome SequenceHeader
-headerOf body = answerOf (headerResult body)
-
--- ── extensions ──
-
--- a display extension where colour is not given
-unfoldable pub plainOf : List ℕ → Result Extension
-plainOf body = do
-  d ← recordOf Display plainRecord body
-  good (display d)
-
--- a display extension where colour is given
-unfoldable pub colouredOf : List ℕ → Result Extension
-colouredOf body = do
-  d ← recordOf Coloured colouredRecord body
-  good (display d)
-
--- a copyright extension
-unfoldable pub copyrightOf : List ℕ → Result Extension
-copyrightOf body = do
-  c ← recordOf Copyright copyrightRecord body
-  good (copyright c)
-
--- a bit that is there and is 1
-abbrev pub isOne : Bit → Bool
-isOne (bit.Is b) = eqb b 1
-isOne bit.Missing = false
-
--- a bit that is not there is SHORT
-abbrev pub readBit : Bit → Result ℕ
-readBit (bit.Is b) = good b
-readBit bit.Missing = bad Short
-
--- SHORT of a display extension: fewer than 6 bytes, or fewer than 9 with colour given, which is bit 8
-unfoldable pub displayShort : List ℕ → Bool
-displayShort body = short Display body || (isOne (bitAt (bitsOf body) 8) && short Coloured body)
-
--- a display extension: SHORT, then the layout that colour given says
-unfoldable pub displayOf : List ℕ → Result Extension
-displayOf body = do
-  refuseIf (displayShort body) Short
-  colour ← readBit (bitAt (bitsOf body) 8)
-  cond (eqb colour 1) (colouredOf body) (plainOf body)
-
--- An extension's number is its body's first four bits.
-abbrev pub numberOf : List ℕ → Read
-numberOf body = readAt (bitsOf body) 0 4
-
--- Number 2 in a group's head is the display extension; after a picture header it is opaque.
-abbrev pub notCopyright : Place → List ℕ → ℕ → Result Extension
-notCopyright place.Head body number = cond (eqb number 2) (displayOf body) (good (opaque number))
-notCopyright place.Picture body number = good (opaque number)
-
--- Number 4 anywhere is copyright. Any other extension is opaque.
-unfoldable pub byNumber : Place → List ℕ → ℕ → Result Extension
-byNumber place body number = cond (eqb number 4) (copyrightOf body) (notCopyright place body number)
-
--- an extension by its number; an empty body has none, and is SHORT
-unfoldable pub extensionResult : Place → List ℕ → Result Extension
-extensionResult place body = do
-  number ← readValue (numberOf body)
-  byNumber place body number
-
--- what reading an extension's body answers
-unfoldable pub extensionOf : Place → List ℕ → Outcome Extension
-extensionOf place body = answerOf (extensionResult place body)

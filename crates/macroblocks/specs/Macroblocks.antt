@@ -2,7 +2,7 @@
 use Prim.Native.Nat.{ℕ, _+_, _/_}
 use mathlib.Core.Bool.{Bool}
 use lib.Dec.{leb}
-use Rattle.layout.specs.declared.SequenceHeader.{SequenceHeader}
+use Rattle.bodies.specs.declared.SequenceHeader.{SequenceHeader}
 
 -- Macroblock columns = (horizontal size + 15) / 16, whole division.
 abbrev pub macroblockColumns : SequenceHeader → ℕ

@@ -1,5 +1,5 @@
 // What a sequence header record says of macroblocks and slices.
-use layout::SequenceHeader;
+use bodies::SequenceHeader;
 ghost use mathlib.Core.Path.{_≡_};
 ghost use Prim.Native.Nat.{_<_};
 ghost use Rattle.macroblocks.specs.Macroblocks.{macroblockColumns, macroblockRows, slicesTested};

@@ -49,6 +49,6 @@ abbrev pub startOf : Option Row → ℕ
 startOf none = 0
 startOf (some r) = r .offset + 4
 
--- Where that part lies, in the stream's own memory: a place is a block of memory and an offset in it.
-abbrev pub bodyPlace : RefT (List ℕ) → List ℕ → ℕ → ℕ × ℕ
-bodyPlace stream words i = (ptr stream .0, ptr stream .1 + startOf (existing (now stream) words i))
+-- Where that part lies, in the stream's own memory: an address is a block of memory and an offset in it.
+abbrev pub bodyAddress : RefT (List ℕ) → List ℕ → ℕ → ℕ × ℕ
+bodyAddress stream words i = (ptr stream .0, ptr stream .1 + startOf (existing (now stream) words i))

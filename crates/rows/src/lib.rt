@@ -2,7 +2,7 @@
 ghost use mathlib.Core.Path.{_≡_};
 ghost use Prim.Native.Nat.{_<_};
 ghost use denote.Ref.{ptr};
-ghost use Rattle.rows.specs.Rows.{rowExists, rowBody, bodyPlace};
+ghost use Rattle.rows.specs.Rows.{rowExists, rowBody, bodyAddress};
 
 fn wide(x: u32) -> usize
     ensures { λ r. ⌜ (r ≡ x) × (r < 4294967296) ⌝ }
@@ -26,7 +26,7 @@ pub fn row_exists(stream: &[u8], rows: &[u32], i: usize) -> bool
 // The body of row i, a part of the stream; for no row the empty part at the stream's start.
 pub fn row_body<'a>(stream: &'a [u8], rows: &[u32], i: usize) -> &'a [u8]
     ensures body { λ r. ⌜ now r ≡ rowBody (now (stream .entry)) (now (rows .entry)) i ⌝ }
-    ensures place { λ r. ⌜ ptr r ≡ bodyPlace (stream .entry) (now (rows .entry)) i ⌝ }
+    ensures address { λ r. ⌜ ptr r ≡ bodyAddress (stream .entry) (now (rows .entry)) i ⌝ }
 {
     if row_exists(stream, rows, i) {
         let offset = wide(rows[i * 3 + 1]);

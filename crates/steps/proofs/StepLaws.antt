@@ -6,10 +6,11 @@ use mathlib.Core.Bool.{true, false}
 use lib.ListN.{length}
 use borrow.Author.Tests.{lt-ltb, le-ltb, le-leb, lt-leb}
 use native.Mathlib.Omega.{arith}
-use Rattle.layout.specs.Extensions.{numbered}
-use Rattle.layout.specs.Reader.{displayOf, extensionResult, byNumber, allZero}
-use Rattle.layout.specs.declared.Place.the-variants as place
-use Rattle.layout.proofs.NumberLaws.{number-iff}
+use Rattle.bodies.specs.Extensions.{numbered}
+use Rattle.layout.specs.Reader.{allZero}
+use Rattle.bodies.specs.Reader.{displayOf, extensionResult, byNumber}
+use Rattle.bodies.specs.declared.Scope.the-variants as scope
+use Rattle.bodies.proofs.NumberLaws.{number-iff}
 use Rattle.grammar.specs.Reader.{isNil, sliceStep}
 use Rattle.grammar.specs.declared.SliceRule.{SliceRule}
 use Rattle.grammar.specs.declared.State.the-variants.{Slices}
@@ -29,7 +30,7 @@ not-nil-length (x ∷ b) h = refl
 
 -- ── number 2 in a group's head ──
 
-pub head-display : (body : List ℕ) → numbered 2 body ≡ true → extensionResult place.Head body ≡ displayOf body
+pub head-display : (body : List ℕ) → numbered 2 body ≡ true → extensionResult scope.Head body ≡ displayOf body
 unfolding extensionResult byNumber
 head-display body t = rw (number-iff body 2 .1 (number-two body .0 t))
 

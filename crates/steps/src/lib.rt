@@ -1,14 +1,15 @@
 // What follows a unit, by its kind: the next state, or why the unit is refused.
+use bodies::ExtensionReading;
+use bodies::HeaderReading;
+use bodies::Scope;
 use grammar::Reason;
 use grammar::SliceRule;
 use grammar::State;
 use grammar::Step;
-use layout::ExtensionReading;
 use layout::Fault;
-use layout::HeaderReading;
-use layout::Place;
 ghost use mathlib.Core.Path.{_≡_};
-ghost use Rattle.layout.specs.Reader.{extensionResult, allZero};
+ghost use Rattle.layout.specs.Reader.{allZero};
+ghost use Rattle.bodies.specs.Reader.{extensionResult};
 ghost use Rattle.grammar.specs.Reader.{by, headerStep, headExtension, pictureStep, sliceStep, endingStep};
 
 fn all_zero(body: &[u8]) -> bool
@@ -24,10 +25,11 @@ fn all_zero(body: &[u8]) -> bool
     true
 }
 
+// A sequence header begins a group's head, with the rule for its slices and no display extension yet.
 pub fn header_step(body: &[u8]) -> Step
     ensures { λ r. ⌜ r ≡ headerStep (now (body .entry)) ⌝ }
 {
-    match layout::read_header(body) {
+    match bodies::read_header(body) {
         HeaderReading::Header(h) => {
             let rule = SliceRule {
                 tested: macroblocks::slices_tested(h),
@@ -40,10 +42,10 @@ pub fn header_step(body: &[u8]) -> Step
 }
 
 // An extension whose body is read goes on in the state next.
-pub fn extension_step(body: &[u8], place: Place, next: State) -> Step
-    ensures { λ r. ⌜ r ≡ by (extensionResult place (now (body .entry))) (λ x. next) ⌝ }
+pub fn extension_step(body: &[u8], scope: Scope, next: State) -> Step
+    ensures { λ r. ⌜ r ≡ by (extensionResult scope (now (body .entry))) (λ x. next) ⌝ }
 {
-    match layout::read_extension(body, place) {
+    match bodies::read_extension(body, scope) {
         ExtensionReading::Display(_) => Step::Go(next),
         ExtensionReading::Copyright(_) => Step::Go(next),
         ExtensionReading::Opaque(_) => Step::Go(next),
@@ -55,18 +57,19 @@ pub fn extension_step(body: &[u8], place: Place, next: State) -> Step
 pub fn head_extension(rule: SliceRule, display: bool, body: &[u8]) -> Step
     ensures { λ r. ⌜ r ≡ headExtension rule display (now (body .entry)) ⌝ }
 {
-    if !layout::is_display(body) {
-        return extension_step(body, Place::Head, State::Head(rule, display));
+    if !bodies::is_display(body) {
+        return extension_step(body, Scope::Head, State::Head(rule, display));
     }
-    if layout::display_short(body) {
+    if bodies::display_short(body) {
         return Step::Stop(Reason::Body(Fault::Short));
     }
     if display {
         return Step::Stop(Reason::Twice);
     }
-    extension_step(body, Place::Head, State::Head(rule, true))
+    extension_step(body, Scope::Head, State::Head(rule, true))
 }
 
+// A picture header, which is opaque, but holds a nonzero byte.
 pub fn picture_step(rule: SliceRule, body: &[u8]) -> Step
     ensures { λ r. ⌜ r ≡ pictureStep rule (now (body .entry)) ⌝ }
 {
@@ -76,7 +79,7 @@ pub fn picture_step(rule: SliceRule, body: &[u8]) -> Step
     Step::Go(State::Picture(rule))
 }
 
-// The order of slices is tested before the rows.
+// A slice, which is opaque, but holds a nonzero byte. Its order is tested before its row.
 pub fn slice_step(rule: SliceRule, least: u32, code: u8, body: &[u8]) -> Step
     ensures { λ r. ⌜ r ≡ sliceStep rule least (record { code = code; body = now (body .entry) }) ⌝ }
 {
@@ -96,6 +99,7 @@ pub fn slice_step(rule: SliceRule, least: u32, code: u8, body: &[u8]) -> Step
     Step::Go(State::Slices(rule, number + 1))
 }
 
+// An ending, whose body is empty.
 pub fn ending_step(body: &[u8], next: State) -> Step
     ensures { λ r. ⌜ r ≡ endingStep (now (body .entry)) next ⌝ }
 {

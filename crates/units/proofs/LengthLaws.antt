@@ -9,24 +9,25 @@ use borrow.Author.Tests.{ne-eqb, lt-ltb, le-ltb, le-leb, lt-leb}
 use native.Mathlib.Omega.{arith}
 use Rattle.answers.specs.Answers.{done}
 use Rattle.bits.proofs.TestLaws.{contrary}
-use Rattle.layout.specs.Extensions.{numbered}
-use Rattle.layout.specs.Reader.{displayOf, extensionResult, byNumber, allZero}
-use Rattle.layout.specs.declared.Place.{Place}
-use Rattle.layout.specs.declared.Place.the-variants as place
-use Rattle.layout.proofs.NumberLaws.{number-iff}
+use Rattle.bodies.specs.Extensions.{numbered}
+use Rattle.layout.specs.Reader.{allZero}
+use Rattle.bodies.specs.Reader.{displayOf, extensionResult, byNumber}
+use Rattle.bodies.specs.declared.Scope.{Scope}
+use Rattle.bodies.specs.declared.Scope.the-variants as scope
+use Rattle.bodies.proofs.NumberLaws.{number-iff}
 use Rattle.startcode.specs.Kinds.{kindOf}
 use Rattle.startcode.specs.declared.Kind.{Kind}
 use Rattle.startcode.specs.declared.Kind.the-variants as kind
 use Rattle.grammar.specs.Grammar.{StreamUnit}
 use Rattle.grammar.specs.Rows.{placed, kept, trimmed, wholeBody, rowLength}
-use Rattle.grammar.specs.Reader.{sameKind, isNil, sliceStep, placeOf, placeIn}
+use Rattle.grammar.specs.Reader.{sameKind, isNil, sliceStep, placeOf, scopeIn}
 use Rattle.grammar.specs.declared.SliceRule.{SliceRule}
 use Rattle.grammar.specs.declared.State.{State}
 use Rattle.grammar.specs.declared.State.the-variants.{Start, Head, Picture as InPicture, Slices, Ended, Closed}
 use Rattle.grammar.specs.declared.Reason.the-variants.{SliceOrder, SliceRow}
 use Rattle.grammar.specs.declared.Step.the-variants.{Go as go, Stop as stop}
 use Rattle.grammar.proofs.Division.{number-two}
-use Rattle.units.specs.Inside.{extensionPlace}
+use Rattle.units.specs.Inside.{extensionScope}
 
 -- ── trailing zeros ──
 
@@ -59,7 +60,7 @@ trim-all b = ap trimmed (sym (take-length b))
 -- ── a row's length ──
 
 -- where a unit stands matters for an extension alone
-place-same : (q : State) (k : Kind) (body : List ℕ) → wholeBody (done k) (extensionPlace q) body ≡ wholeBody (done k) (placeOf q (done k)) body
+place-same : (q : State) (k : Kind) (body : List ℕ) → wholeBody (done k) (extensionScope q) body ≡ wholeBody (done k) (placeOf q (done k)) body
 place-same Start k body = refl
 place-same (Head rule d) kind.Slice body = refl
 place-same (Head rule d) kind.SequenceHeader body = refl
@@ -75,12 +76,12 @@ place-same Ended k body = refl
 place-same Closed k body = refl
 
 pub length-same : (q : State) (k : Kind) (u : StreamUnit) → kindOf (u .code) ≡ done k →
-    length (cond (wholeBody (done k) (extensionPlace q) (u .body)) (u .body) (trimmed (u .body))) ≡ rowLength (placed (placeIn q u) u)
+    length (cond (wholeBody (done k) (extensionScope q) (u .body)) (u .body) (trimmed (u .body))) ≡ rowLength (placed (scopeIn q u) u)
 unfolding rowLength
 length-same q k u e = rw (e, place-same q k (u .body))
 
 -- a kind that is neither user data nor an extension
-pub not-whole : (k : Kind) (p : Place) (body : List ℕ) → sameKind k kind.UserData ≡ false → sameKind k kind.Extension ≡ false → wholeBody (done k) p body ≡ false
+pub not-whole : (k : Kind) (p : Scope) (body : List ℕ) → sameKind k kind.UserData ≡ false → sameKind k kind.Extension ≡ false → wholeBody (done k) p body ≡ false
 not-whole kind.Slice p body u x = refl
 not-whole kind.SequenceHeader p body u x = refl
 not-whole kind.SequenceEnd p body u x = refl

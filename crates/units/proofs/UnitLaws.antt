@@ -10,10 +10,10 @@ use borrow.Author.Tests.{eqb-true, eqb-false}
 use native.Mathlib.Omega.{arith}
 use Rattle.bits.proofs.TestLaws.{by-test}
 use Rattle.startcode.specs.Prefix.{begins, nextPrefix}
-use Rattle.layout.specs.declared.Place.{Place}
+use Rattle.bodies.specs.declared.Scope.{Scope}
 use Rattle.grammar.specs.Grammar.{StreamUnit, bytes}
 use Rattle.grammar.specs.Rows.{Placed, placed, rowLength, isWhole, kept, trimmed}
-use Rattle.grammar.specs.Reader.{cut, step, placeIn, Walk, stopAt, continue, addUnit, walkFrom}
+use Rattle.grammar.specs.Reader.{cut, step, scopeIn, Walk, stopAt, continue, addUnit, walkFrom}
 use Rattle.grammar.specs.declared.State.{State}
 use Rattle.grammar.specs.declared.Reason.the-variants as reason
 use Rattle.grammar.specs.declared.Step.{Step}
@@ -87,22 +87,22 @@ module _ (s : List ℕ) (q : State) (at : ℕ) (b : begins (drop at s) ≡ true)
   here = the-unit s q at b h b′
 
   abbrev goes : Step → Walk
-  goes t = continue t at (λ q′. addUnit (placed (placeIn q here) here) (left s q′ (nextPrefix s (at + 3))))
+  goes t = continue t at (λ q′. addUnit (placed (scopeIn q here) here) (left s q′ (nextPrefix s (at + 3))))
 
   unit-left : left s q at ≡ goes (step q here)
   unfolding walkFrom left
   unit-left =
       left-of s q at _ (chunks-unit s at b h b′)
-      ∙ ap (λ (n : ℕ). continue (step q here) at (λ q′. addUnit (placed (placeIn q here) here) (walkFrom (cut (drop (nextPrefix s (at + 3)) s) .chunks) q′ n))) (unit-ends s at b h b′)
+      ∙ ap (λ (n : ℕ). continue (step q here) at (λ q′. addUnit (placed (scopeIn q here) here) (walkFrom (cut (drop (nextPrefix s (at + 3)) s) .chunks) q′ n))) (unit-ends s at b h b′)
 
-  by-step : (t : Step) → step q here ≡ t → Left s q at (nextOf t (nextPrefix s (at + 3)) (rowLength (placed (placeIn q here) here)))
+  by-step : (t : Step) → step q here ≡ t → Left s q at (nextOf t (nextPrefix s (at + 3)) (rowLength (placed (scopeIn q here) here)))
   by-step (go q′) e =
       let f = next-fits s at b h b′ in
-      let l = length-le (placed (placeIn q here) here) in
+      let l = length-le (placed (scopeIn q here) here) in
       let d = length-take (nextPrefix s (at + 3) - (at + 4)) (drop (at + 4) s) in
       let k = length-drop (at + 4) s in
       record {
-        unit = placed (placeIn q here) here;
+        unit = placed (scopeIn q here) here;
         more = unit-left ∙ ap goes e;
         code = refl;
         bytes-are = unit-ends s at b h b′;

@@ -6,7 +6,7 @@ use lib.ListN.{length, drop}
 use Rattle.startcode.specs.Prefix.{begins}
 use Rattle.grammar.specs.Grammar.{StreamUnit, bytes}
 use Rattle.grammar.specs.Rows.{placed, rowLength}
-use Rattle.grammar.specs.Reader.{step, placeIn, isNil, cut}
+use Rattle.grammar.specs.Reader.{step, scopeIn, isNil, cut}
 use Rattle.grammar.specs.declared.State.{State}
 use Rattle.grammar.specs.declared.Reason.the-variants as reason
 use Rattle.grammar.specs.declared.Step.{Step}
@@ -20,7 +20,7 @@ nextOf (Stop why) end length = answer.Refused why
 
 -- a unit that ends at an offset, read in state q
 abbrev pub unitFrom : State → StreamUnit → ℕ → UnitAnswer
-unitFrom q u end = nextOf (step q u) end (rowLength (placed (placeIn q u) u))
+unitFrom q u end = nextOf (step q u) end (rowLength (placed (scopeIn q u) u))
 
 -- the first of the chunks that a stream is cut into; an empty one is CUT at the stream's end and OVERLAP before another
 abbrev pub unitOf : List (List ℕ) → State → ℕ → UnitAnswer

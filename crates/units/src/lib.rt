@@ -1,9 +1,9 @@
 // One unit of a stream, read in the state that the units before it lead to.
+use bodies::Scope;
 use grammar::Reason;
 use grammar::SliceRule;
 use grammar::State;
 use grammar::Step;
-use layout::Place;
 use startcode::Kind;
 use startcode::UnitKind;
 ghost use mathlib.Core.Path.{_≡_};
@@ -14,7 +14,7 @@ ghost use Rattle.answers.specs.Answers.{done};
 ghost use Rattle.grammar.specs.Rows.{trimmed, wholeBody};
 ghost use Rattle.grammar.specs.Reader.{choose, table};
 ghost use Rattle.units.specs.Reader.{unitFrom, unitAt};
-ghost use Rattle.units.specs.Inside.{extensionPlace};
+ghost use Rattle.units.specs.Inside.{extensionScope};
 
 // The state after a unit, where it ends and its row's length; or why it is refused; or that no unit begins here.
 pub enum UnitAnswer {
@@ -63,7 +63,7 @@ fn in_picture(rule: SliceRule, kind: Kind, code: u8, body: &[u8]) -> Step
     match kind {
         Kind::Slice => steps::slice_step(rule, 0, code, body),
         Kind::UserData => Step::Go(State::Picture(rule)),
-        Kind::Extension => steps::extension_step(body, Place::Picture, State::Picture(rule)),
+        Kind::Extension => steps::extension_step(body, Scope::Picture, State::Picture(rule)),
         _ => Step::Stop(Reason::OutOfPlace),
     }
 }
@@ -98,26 +98,26 @@ fn in_state(state: State, kind: Kind, code: u8, body: &[u8]) -> Step
 // ── a row's length ──
 
 // Where an extension stands that is read in this state.
-fn place_in(state: State) -> Place
-    ensures { λ r. ⌜ r ≡ extensionPlace state ⌝ }
+fn scope_in(state: State) -> Scope
+    ensures { λ r. ⌜ r ≡ extensionScope state ⌝ }
 {
     match state {
-        State::Head(_, _) => Place::Head,
-        State::Start => Place::Picture,
-        State::Picture(_) => Place::Picture,
-        State::Slices(_, _) => Place::Picture,
-        State::Ended => Place::Picture,
-        State::Closed => Place::Picture,
+        State::Head(_, _) => Scope::Head,
+        State::Start => Scope::Picture,
+        State::Picture(_) => Scope::Picture,
+        State::Slices(_, _) => Scope::Picture,
+        State::Ended => Scope::Picture,
+        State::Closed => Scope::Picture,
     }
 }
 
 // Whether a row's body is whole: that of user data, which may end in zero bytes, and of opaque extensions.
-fn is_whole(place: Place, kind: Kind, body: &[u8]) -> bool
-    ensures { λ r. ⌜ r ≡ wholeBody (done kind) place (now (body .entry)) ⌝ }
+fn is_whole(scope: Scope, kind: Kind, body: &[u8]) -> bool
+    ensures { λ r. ⌜ r ≡ wholeBody (done kind) scope (now (body .entry)) ⌝ }
 {
     match kind {
         Kind::UserData => true,
-        Kind::Extension => layout::is_opaque(body, place),
+        Kind::Extension => bodies::is_opaque(body, scope),
         _ => false,
     }
 }
@@ -137,10 +137,10 @@ fn trimmed_length(body: &[u8]) -> usize
 }
 
 // The body without its trailing zero bytes, or the whole body.
-fn row_length(place: Place, kind: Kind, body: &[u8]) -> usize
-    ensures { λ r. ⌜ r ≡ length (cond (wholeBody (done kind) place (now (body .entry))) (now (body .entry)) (trimmed (now (body .entry)))) ⌝ }
+fn row_length(scope: Scope, kind: Kind, body: &[u8]) -> usize
+    ensures { λ r. ⌜ r ≡ length (cond (wholeBody (done kind) scope (now (body .entry))) (now (body .entry)) (trimmed (now (body .entry)))) ⌝ }
 {
-    if is_whole(place, kind, body) {
+    if is_whole(scope, kind, body) {
         return body.len();
     }
     trimmed_length(body)
@@ -154,9 +154,9 @@ fn unit_of(state: State, code: u8, body: &[u8], end: usize) -> UnitAnswer
 {
     match startcode::kind_of(code) {
         UnitKind::Is(kind) => {
-            let place = place_in(state);
+            let scope = scope_in(state);
             match in_state(state, kind, code, body) {
-                Step::Go(next) => UnitAnswer::Next(next, end, row_length(place, kind, body)),
+                Step::Go(next) => UnitAnswer::Next(next, end, row_length(scope, kind, body)),
                 Step::Stop(why) => UnitAnswer::Refused(why),
             }
         }

@@ -3,10 +3,7 @@
 use std::fmt;
 
 use crate::calls;
-use crate::raw::{
-    Answer, AVSPLUS_COLOUR_NUMBERS, AVSPLUS_COPYRIGHT_NUMBERS, AVSPLUS_DISPLAY_NUMBERS, AVSPLUS_HEADER_NUMBERS,
-    AVSPLUS_RATIO_NUMBERS,
-};
+use crate::raw::{Answer, AVSPLUS_EXTENSION_WITH_COLOUR, AVSPLUS_HEADER_NUMBERS, AVSPLUS_RATIO_NUMBERS};
 use crate::status::{check, Reason};
 
 /// A fraction.
@@ -68,11 +65,13 @@ impl SequenceHeader {
         display_ratio(self.aspect)
     }
 
-    pub(crate) fn from_numbers(numbers: [u64; AVSPLUS_HEADER_NUMBERS]) -> SequenceHeader {
+    /// None for another count of numbers.
+    pub(crate) fn from_numbers(numbers: &[u64]) -> Option<SequenceHeader> {
+        let numbers: [u64; AVSPLUS_HEADER_NUMBERS] = numbers.try_into().ok()?;
         let [profile, level, progressive, horizontal_size, vertical_size, chroma_format, precision, rest @ ..] =
             numbers.map(word);
         let [aspect, frame_rate_code, bit_rate, low_delay, buffer_size, macroblock_columns, macroblock_rows] = rest;
-        SequenceHeader {
+        Some(SequenceHeader {
             profile,
             level,
             progressive: progressive != 0,
@@ -87,7 +86,7 @@ impl SequenceHeader {
             buffer_size,
             macroblock_columns,
             macroblock_rows,
-        }
+        })
     }
 }
 
@@ -120,16 +119,29 @@ pub struct DisplayExtension {
 }
 
 impl DisplayExtension {
-    pub(crate) fn from_numbers(numbers: [u64; AVSPLUS_DISPLAY_NUMBERS], colour: Option<Colour>) -> DisplayExtension {
-        let [format, range, width, height, stereo] = numbers.map(word);
-        DisplayExtension {
+    /// Of its numbers alone, or with those of its colour after them; none for another count.
+    pub(crate) fn from_numbers(numbers: &[u64]) -> Option<DisplayExtension> {
+        let (display, colour) = match *numbers {
+            [format, range, width, height, stereo] => ([format, range, width, height, stereo], None),
+            [format, range, width, height, stereo, primaries, transfer, matrix] => {
+                let colour = Colour {
+                    primaries: word(primaries),
+                    transfer: word(transfer),
+                    matrix: word(matrix),
+                };
+                ([format, range, width, height, stereo], Some(colour))
+            }
+            _ => return None,
+        };
+        let [format, range, width, height, stereo] = display.map(word);
+        Some(DisplayExtension {
             format,
             range,
             colour,
             width,
             height,
             stereo,
-        }
+        })
     }
 }
 
@@ -157,9 +169,27 @@ pub enum Extension {
     Opaque(u8),
 }
 
+impl Extension {
+    /// Of its numbers, whose count says which it is; none for a count of no extension.
+    fn from_numbers(numbers: &[u64]) -> Option<Extension> {
+        match *numbers {
+            [] => None,
+            // A number has four bits.
+            [number] => Some(Extension::Opaque(number as u8)),
+            [_, flag, owner, original, number] => Some(Extension::Copyright(CopyrightExtension {
+                flag: flag != 0,
+                owner: word(owner),
+                original: original != 0,
+                number,
+            })),
+            [_, ref display @ ..] => DisplayExtension::from_numbers(display).map(Extension::Display),
+        }
+    }
+}
+
 /// Where an extension stands.
 #[derive(Debug, Clone, Copy, PartialEq, Eq, Hash)]
-pub enum Place {
+pub enum Scope {
     /// In a group's head, before its first picture.
     Head,
     /// After a picture header.
@@ -202,63 +232,31 @@ pub fn display_ratio(aspect: u32) -> Option<Ratio> {
 /// # Ok::<(), Reason>(())
 /// ```
 pub fn sequence_header(body: &[u8]) -> Result<SequenceHeader, Reason> {
-    let (_, numbers) = numbers(|numbers| calls::sequence_header(body, numbers))?;
-    Ok(SequenceHeader::from_numbers(numbers))
+    let call = |numbers: &mut [u64]| calls::sequence_header(body, numbers);
+    read(&mut [0; AVSPLUS_HEADER_NUMBERS], call, SequenceHeader::from_numbers)
 }
 
 /// Reads the body of an extension. Number 2 is a display extension only in a group's head.
 ///
 /// ```
-/// use avsplus::{Extension, Place, Reason};
+/// use avsplus::{Extension, Reason, Scope};
 ///
 /// // Format 1, range 0, colour not given, 1920 by 1080, stereo 0.
 /// let body = [0x22, 0x0F, 0x01, 0x10, 0xE0, 0x80];
-/// match avsplus::extension(&body, Place::Head)? {
+/// match avsplus::extension(&body, Scope::Head)? {
 ///     Extension::Display(display) => {
 ///         assert_eq!((display.width, display.height), (1920, 1080));
 ///         assert_eq!(display.colour, None);
 ///     }
 ///     other => panic!("{:?}", other),
 /// }
-/// assert_eq!(avsplus::extension(&body, Place::Picture)?, Extension::Opaque(2));
-/// assert_eq!(avsplus::extension(&[], Place::Picture), Err(Reason::Short));
+/// assert_eq!(avsplus::extension(&body, Scope::Picture)?, Extension::Opaque(2));
+/// assert_eq!(avsplus::extension(&[], Scope::Picture), Err(Reason::Short));
 /// # Ok::<(), Reason>(())
 /// ```
-pub fn extension(body: &[u8], place: Place) -> Result<Extension, Reason> {
-    let in_head = place == Place::Head;
-    let (_, [number]) = numbers(|numbers| calls::extension(body, in_head, numbers))?;
-    if let Some(display) = given(|numbers| calls::display(body, in_head, numbers))? {
-        let colour = given(|numbers| calls::display_colour(body, in_head, numbers))?;
-        return Ok(Extension::Display(DisplayExtension::from_numbers(
-            display,
-            colour.map(colour_of),
-        )));
-    }
-    if let Some(copyright) = given(|numbers| calls::copyright(body, in_head, numbers))? {
-        return Ok(Extension::Copyright(copyright_of(copyright)));
-    }
-    // A number has four bits.
-    Ok(Extension::Opaque(number as u8))
-}
-
-/// The colour of its three numbers.
-pub(crate) fn colour_of(numbers: [u64; AVSPLUS_COLOUR_NUMBERS]) -> Colour {
-    let [primaries, transfer, matrix] = numbers.map(word);
-    Colour {
-        primaries,
-        transfer,
-        matrix,
-    }
-}
-
-fn copyright_of(numbers: [u64; AVSPLUS_COPYRIGHT_NUMBERS]) -> CopyrightExtension {
-    let [flag, owner, original, number] = numbers;
-    CopyrightExtension {
-        flag: flag != 0,
-        owner: word(owner),
-        original: original != 0,
-        number,
-    }
+pub fn extension(body: &[u8], scope: Scope) -> Result<Extension, Reason> {
+    let call = |numbers: &mut [u64]| calls::extension(body, scope == Scope::Head, numbers);
+    read(&mut [0; AVSPLUS_EXTENSION_WITH_COLOUR], call, Extension::from_numbers)
 }
 
 /// A number of at most 32 bits: all that bodies hold are, but the copyright number.
@@ -266,22 +264,55 @@ fn word(number: u64) -> u32 {
     number as u32
 }
 
-/// Lends `N` numbers to a call: their count and the numbers, or the refusal.
-fn numbers<const N: usize>(call: impl FnOnce(&mut [u64]) -> Answer) -> Result<(usize, [u64; N]), Reason> {
-    let mut numbers = [0; N];
-    let answer = call(&mut numbers);
+/// Lends numbers to a call and makes a record of those that it hands over.
+fn read<T>(
+    numbers: &mut [u64],
+    call: impl FnOnce(&mut [u64]) -> Answer,
+    record: impl FnOnce(&[u64]) -> Option<T>,
+) -> Result<T, Reason> {
+    let answer = call(numbers);
     check(answer.status)?;
-    Ok((answer.count, numbers))
+    numbers.get(..answer.count).and_then(record).ok_or(Reason::Unexpected)
 }
 
-/// The same where the call may hand over nothing.
-fn given<const N: usize>(call: impl FnOnce(&mut [u64]) -> Answer) -> Result<Option<[u64; N]>, Reason> {
-    let (count, numbers) = numbers(call)?;
-    Ok(if count == 0 { None } else { Some(numbers) })
-}
-
+/// A ratio, where the call hands one over.
 fn ratio(call: impl FnOnce(&mut [u64]) -> Answer) -> Option<Ratio> {
-    let numbers: [u64; AVSPLUS_RATIO_NUMBERS] = given(call).ok()??;
-    let [numerator, denominator] = numbers.map(word);
-    Some(Ratio { numerator, denominator })
+    let record = |numbers: &[u64]| match *numbers {
+        [numerator, denominator] => Some(Ratio {
+            numerator: word(numerator),
+            denominator: word(denominator),
+        }),
+        _ => None,
+    };
+    read(&mut [0; AVSPLUS_RATIO_NUMBERS], call, record).ok()
+}
+
+#[cfg(test)]
+mod tests {
+    use super::*;
+
+    /// Counts that have a record; `make` says whether one is made of so many numbers.
+    fn counts(make: impl Fn(&[u64]) -> bool) -> Vec<usize> {
+        (0..30).filter(|&count| make(&[1; 30][..count])).collect()
+    }
+
+    #[test]
+    fn other_counts_are_no_records() {
+        assert_eq!(counts(|n| SequenceHeader::from_numbers(n).is_some()), [14]);
+        assert_eq!(counts(|n| DisplayExtension::from_numbers(n).is_some()), [5, 8]);
+        assert_eq!(counts(|n| Extension::from_numbers(n).is_some()), [1, 5, 6, 9]);
+    }
+
+    #[test]
+    fn an_unexpected_count_is_an_error() {
+        for count in [0, 2, 3, usize::MAX] {
+            let answer = Answer {
+                status: 0,
+                offset: 0,
+                count,
+            };
+            let read = read(&mut [0; 2], |_| answer, |numbers| numbers.get(1).copied());
+            assert_eq!(read, if count == 2 { Ok(0) } else { Err(Reason::Unexpected) });
+        }
+    }
 }

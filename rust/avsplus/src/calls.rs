@@ -2,6 +2,16 @@
 
 use crate::raw::{self, Answer, Bin, Context, Golomb, PairBin, Part, PlainBin, SignedNumber, Started, State};
 
+pub(crate) fn version() -> u32 {
+    // SAFETY: nothing is lent.
+    unsafe { raw::avsplus_version() }
+}
+
+pub(crate) fn check(stream: &[u8]) -> Answer {
+    // SAFETY: the pointer comes with its slice's own length.
+    unsafe { raw::avsplus_check(stream.as_ptr(), stream.len()) }
+}
+
 pub(crate) fn file(stream: &[u8], rows: &mut [u32]) -> Answer {
     // SAFETY: each pointer comes with its slice's own length, and `rows` is borrowed alone.
     unsafe { raw::avsplus_file(stream.as_ptr(), stream.len(), rows.as_mut_ptr(), rows.len()) }
@@ -17,19 +27,9 @@ pub(crate) fn row_body(stream: &[u8], rows: &[u32], i: usize) -> Part {
     unsafe { raw::avsplus_row_body(stream.as_ptr(), stream.len(), rows.as_ptr(), rows.len(), i) }
 }
 
-pub(crate) fn group_header(stream: &[u8], g: usize, numbers: &mut [u64]) -> Answer {
+pub(crate) fn group(stream: &[u8], g: usize, numbers: &mut [u64]) -> Answer {
     // SAFETY: each pointer comes with its slice's own length, and `numbers` is borrowed alone.
-    unsafe { raw::avsplus_group_header(stream.as_ptr(), stream.len(), g, numbers.as_mut_ptr(), numbers.len()) }
-}
-
-pub(crate) fn group_display(stream: &[u8], g: usize, numbers: &mut [u64]) -> Answer {
-    // SAFETY: each pointer comes with its slice's own length, and `numbers` is borrowed alone.
-    unsafe { raw::avsplus_group_display(stream.as_ptr(), stream.len(), g, numbers.as_mut_ptr(), numbers.len()) }
-}
-
-pub(crate) fn group_colour(stream: &[u8], g: usize, numbers: &mut [u64]) -> Answer {
-    // SAFETY: each pointer comes with its slice's own length, and `numbers` is borrowed alone.
-    unsafe { raw::avsplus_group_colour(stream.as_ptr(), stream.len(), g, numbers.as_mut_ptr(), numbers.len()) }
+    unsafe { raw::avsplus_group(stream.as_ptr(), stream.len(), g, numbers.as_mut_ptr(), numbers.len()) }
 }
 
 pub(crate) fn sequence_header(body: &[u8], numbers: &mut [u64]) -> Answer {
@@ -40,21 +40,6 @@ pub(crate) fn sequence_header(body: &[u8], numbers: &mut [u64]) -> Answer {
 pub(crate) fn extension(body: &[u8], in_head: bool, numbers: &mut [u64]) -> Answer {
     // SAFETY: each pointer comes with its slice's own length, and `numbers` is borrowed alone.
     unsafe { raw::avsplus_extension(body.as_ptr(), body.len(), in_head, numbers.as_mut_ptr(), numbers.len()) }
-}
-
-pub(crate) fn display(body: &[u8], in_head: bool, numbers: &mut [u64]) -> Answer {
-    // SAFETY: each pointer comes with its slice's own length, and `numbers` is borrowed alone.
-    unsafe { raw::avsplus_display(body.as_ptr(), body.len(), in_head, numbers.as_mut_ptr(), numbers.len()) }
-}
-
-pub(crate) fn display_colour(body: &[u8], in_head: bool, numbers: &mut [u64]) -> Answer {
-    // SAFETY: each pointer comes with its slice's own length, and `numbers` is borrowed alone.
-    unsafe { raw::avsplus_display_colour(body.as_ptr(), body.len(), in_head, numbers.as_mut_ptr(), numbers.len()) }
-}
-
-pub(crate) fn copyright(body: &[u8], in_head: bool, numbers: &mut [u64]) -> Answer {
-    // SAFETY: each pointer comes with its slice's own length, and `numbers` is borrowed alone.
-    unsafe { raw::avsplus_copyright(body.as_ptr(), body.len(), in_head, numbers.as_mut_ptr(), numbers.len()) }
 }
 
 pub(crate) fn frame_rate(code: u32, numbers: &mut [u64]) -> Answer {

@@ -2,19 +2,16 @@
 
 use std::fmt;
 
-use crate::bodies::{colour_of, extension, sequence_header, DisplayExtension, Extension, Place, SequenceHeader};
+use crate::bodies::{extension, sequence_header, DisplayExtension, Extension, Scope, SequenceHeader};
 use crate::calls;
-use crate::raw::{self, Answer, AVSPLUS_COLOUR_NUMBERS, AVSPLUS_DISPLAY_NUMBERS, AVSPLUS_HEADER_NUMBERS};
-use crate::status::{check_stream, Refused};
+use crate::raw::{self, AVSPLUS_GROUP_PLAIN, AVSPLUS_GROUP_WITH_COLOUR, AVSPLUS_ROW_CODE, AVSPLUS_ROW_OFFSET};
+use crate::status::{check_stream, Reason, Refused};
 
 /// The most bytes of a stream.
 pub const LONGEST_STREAM: usize = raw::AVSPLUS_LONGEST_STREAM as usize;
 
 /// Words of a row: code, offset of the start code, length of the body.
 pub const ROW_WORDS: usize = raw::AVSPLUS_ROW_WORDS;
-
-/// The bytes of a start code's prefix, 00 00 01.
-const PREFIX: usize = 3;
 
 /// The kinds of unit.
 #[derive(Debug, Clone, Copy, PartialEq, Eq, Hash)]
@@ -82,7 +79,7 @@ pub fn kind(code: u8) -> Option<Kind> {
     }
 }
 
-/// The first place from `from` on where 00 00 01 stands, or the stream's length.
+/// The first offset from `from` on where 00 00 01 stands, or the stream's length.
 ///
 /// ```
 /// let stream = [0, 0, 1, 0xB3, 0x80, 0, 0, 1, 0xB1];
@@ -92,6 +89,20 @@ pub fn kind(code: u8) -> Option<Kind> {
 /// ```
 pub fn next_start_code(stream: &[u8], from: usize) -> usize {
     calls::next_start_code(stream, from)
+}
+
+/// Checks a stream and answers how many units it has. Refused as filing is, but never with FULL.
+///
+/// ```
+/// let header = [0x48, 0x40, 0x0F, 0x00, 0x21, 0xC2, 0x4C, 0xC4, 0xE2, 0x08, 0x00, 0x20, 0x02, 0x00, 0x80];
+/// let rest = [0, 0, 1, 0xB3, 0x80, 0, 0, 1, 0x00, 0x80, 0, 0, 1, 0xB1];
+/// let stream = [&[0, 0, 1, 0xB0][..], &header, &rest].concat();
+///
+/// assert_eq!(avsplus::check(&stream), Ok(4));
+/// assert_eq!(avsplus::check(&stream[..29]).unwrap_err().to_string(), "UNENDED (11) at 29");
+/// ```
+pub fn check(stream: &[u8]) -> Result<usize, Refused> {
+    check_stream(calls::check(stream))
 }
 
 /// Files a stream into lent rows and answers how many units it has. Each takes three words: code, offset of the start code,
@@ -135,24 +146,9 @@ pub fn file_into(stream: &[u8], rows: &mut [u32]) -> Result<usize, Refused> {
 /// # Ok::<(), avsplus::Refused>(())
 /// ```
 pub fn file(stream: &[u8]) -> Result<Recording<'_>, Refused> {
-    let mut rows = vec![0; ROW_WORDS * start_codes(stream)];
-    let units = file_into(stream, &mut rows)?;
-    rows.truncate(ROW_WORDS * units);
+    let mut rows = vec![0; ROW_WORDS * check(stream)?];
+    file_into(stream, &mut rows)?;
     Ok(Recording { stream, rows })
-}
-
-/// How many start codes a stream has: a good stream has as many units. One over the limit is refused unread.
-fn start_codes(stream: &[u8]) -> usize {
-    if stream.len() > LONGEST_STREAM {
-        return 0;
-    }
-    let mut codes = 0;
-    let mut place = next_start_code(stream, 0);
-    while place < stream.len() {
-        codes += 1;
-        place = next_start_code(stream, place + PREFIX);
-    }
-    codes
 }
 
 /// Whether row `i` exists: `rows` holds it, and its body ends within the stream.
@@ -191,6 +187,18 @@ pub struct Group {
     pub display: Option<DisplayExtension>,
 }
 
+impl Group {
+    /// Of its header's numbers, or with those of its display extension after them; none for another count.
+    fn from_numbers(numbers: &[u64]) -> Option<Group> {
+        let header = SequenceHeader::from_numbers(numbers.get(..AVSPLUS_GROUP_PLAIN)?)?;
+        let display = match &numbers[AVSPLUS_GROUP_PLAIN..] {
+            [] => None,
+            given => Some(DisplayExtension::from_numbers(given)?),
+        };
+        Some(Group { header, display })
+    }
+}
+
 /// The record of group `g` of a stream, counted from 0. The stream's own refusal comes first, then NO ROW.
 ///
 /// Every call files the stream anew; for many groups of one stream use [`Recording::groups`].
@@ -209,25 +217,12 @@ pub struct Group {
 /// # Ok::<(), avsplus::Refused>(())
 /// ```
 pub fn group(stream: &[u8], g: usize) -> Result<Group, Refused> {
-    let (_, header): (_, [u64; AVSPLUS_HEADER_NUMBERS]) = numbers(|numbers| calls::group_header(stream, g, numbers))?;
-    let (count, display): (_, [u64; AVSPLUS_DISPLAY_NUMBERS]) = numbers(|numbers| calls::group_display(stream, g, numbers))?;
-    let header = SequenceHeader::from_numbers(header);
-    if count == 0 {
-        return Ok(Group { header, display: None });
-    }
-    let (count, colour): (_, [u64; AVSPLUS_COLOUR_NUMBERS]) = numbers(|numbers| calls::group_colour(stream, g, numbers))?;
-    let colour = if count == 0 { None } else { Some(colour_of(colour)) };
-    Ok(Group {
-        header,
-        display: Some(DisplayExtension::from_numbers(display, colour)),
+    let mut numbers = [0; AVSPLUS_GROUP_WITH_COLOUR];
+    let count = check_stream(calls::group(stream, g, &mut numbers))?;
+    numbers.get(..count).and_then(Group::from_numbers).ok_or(Refused {
+        reason: Reason::Unexpected,
+        offset: 0,
     })
-}
-
-/// Lends `N` numbers to a call about a stream: their count and the numbers, or the refusal.
-fn numbers<const N: usize>(call: impl FnOnce(&mut [u64]) -> Answer) -> Result<(usize, [u64; N]), Refused> {
-    let mut numbers = [0; N];
-    let count = check_stream(call(&mut numbers))?;
-    Ok((count, numbers))
 }
 
 /// A unit of a filed stream.
@@ -278,11 +273,11 @@ impl<'a> Recording<'a> {
         let body = row_body(self.stream, &self.rows, i)?;
         let row = &self.rows[ROW_WORDS * i..];
         // A filed row's code is a byte, and its offset lies within the stream.
-        let code = row[0] as u8;
+        let code = row[AVSPLUS_ROW_CODE] as u8;
         Some(Unit {
             code,
             kind: kind(code)?,
-            offset: row[1] as usize,
+            offset: row[AVSPLUS_ROW_OFFSET] as usize,
             body,
         })
     }
@@ -305,7 +300,8 @@ impl<'a> Recording<'a> {
 
     /// The units that are sequence headers: one for each group.
     fn heads(&self) -> impl Iterator<Item = usize> + '_ {
-        (0..self.unit_count()).filter(move |&i| kind(self.rows[ROW_WORDS * i] as u8) == Some(Kind::SequenceHeader))
+        (0..self.unit_count())
+            .filter(move |&i| kind(self.rows[ROW_WORDS * i + AVSPLUS_ROW_CODE] as u8) == Some(Kind::SequenceHeader))
     }
 
     /// The group whose sequence header is unit `head`.
@@ -324,8 +320,21 @@ fn display_of(unit: Unit<'_>) -> Option<DisplayExtension> {
     if unit.kind != Kind::Extension {
         return None;
     }
-    match extension(unit.body, Place::Head) {
+    match extension(unit.body, Scope::Head) {
         Ok(Extension::Display(display)) => Some(display),
         _ => None,
+    }
+}
+
+#[cfg(test)]
+mod tests {
+    use super::*;
+
+    #[test]
+    fn other_counts_are_no_groups() {
+        let counts: Vec<usize> = (0..30)
+            .filter(|&count| Group::from_numbers(&[1; 30][..count]).is_some())
+            .collect();
+        assert_eq!(counts, [14, 19, 22]);
     }
 }

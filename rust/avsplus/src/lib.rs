@@ -36,12 +36,21 @@ mod status;
 
 pub use bins::{bypass, decode, decode_pair, start, stuffing, Context, State};
 pub use bodies::{
-    display_ratio, extension, frame_rate, sequence_header, Colour, CopyrightExtension, DisplayExtension, Extension, Place,
-    Ratio, SequenceHeader,
+    display_ratio, extension, frame_rate, sequence_header, Colour, CopyrightExtension, DisplayExtension, Extension, Ratio,
+    Scope, SequenceHeader,
 };
 pub use filing::{
-    file, file_into, group, kind, next_start_code, row_body, row_exists, Group, Kind, Recording, Unit, LONGEST_STREAM,
+    check, file, file_into, group, kind, next_start_code, row_body, row_exists, Group, Kind, Recording, Unit, LONGEST_STREAM,
     ROW_WORDS,
 };
 pub use payload::{remove_escapes, signed_golomb, unsigned_golomb, LONGEST_PAYLOAD};
 pub use status::{Reason, Refused};
+
+/// The number of the library's interface.
+///
+/// ```
+/// assert_eq!(avsplus::version(), avsplus::raw::AVSPLUS_VERSION);
+/// ```
+pub fn version() -> u32 {
+    calls::version()
+}

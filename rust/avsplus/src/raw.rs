@@ -1,8 +1,14 @@
 //! The C interface as its header has it, for callers who want no layer between.
 //!
 //! A pointer lent with a length points to that many elements, and a lent output overlaps nothing else that is lent. A null
-//! pointer may be lent with length 0 only. No function allocates, keeps a pointer, or writes past what it says. A refusal, and
-//! something not given, leave all lent memory as it was.
+//! pointer may be lent with length 0 only. No function allocates, keeps a pointer, or writes past what it says. A refusal
+//! leaves all lent memory as it was.
+//!
+//! Numbers are written to lent memory from its start on, and the answer's count says how many; later ones stay. What is not
+//! given is not written, needs no room and is never FULL.
+
+/// The number of this interface, raised when it changes: compare it with what [`avsplus_version`] answers.
+pub const AVSPLUS_VERSION: u32 = 1;
 
 /// Status: done, or FILED for filing.
 pub const AVSPLUS_DONE: u32 = 0;
@@ -44,18 +50,109 @@ pub const AVSPLUS_LONGEST_STREAM: u32 = 16_777_216;
 /// The most bytes of a payload.
 pub const AVSPLUS_LONGEST_PAYLOAD: u32 = 65_536;
 
-/// Words of a row: code, offset of the start code, length of the body.
+/// Word of a row: the code.
+pub const AVSPLUS_ROW_CODE: usize = 0;
+/// Word of a row: the offset of the start code.
+pub const AVSPLUS_ROW_OFFSET: usize = 1;
+/// Word of a row: the length of the body.
+pub const AVSPLUS_ROW_LENGTH: usize = 2;
+/// How many words a row has.
 pub const AVSPLUS_ROW_WORDS: usize = 3;
-/// Numbers of a sequence header: profile, level, progressive, horizontal, vertical, chroma, precision, aspect, rate, bit rate,
-/// low delay, buffer size, macroblock columns, macroblock rows.
+
+/// Number of a sequence header, alone and of a group: profile.
+pub const AVSPLUS_HEADER_PROFILE: usize = 0;
+/// Number of a sequence header, alone and of a group: level.
+pub const AVSPLUS_HEADER_LEVEL: usize = 1;
+/// Number of a sequence header, alone and of a group: progressive.
+pub const AVSPLUS_HEADER_PROGRESSIVE: usize = 2;
+/// Number of a sequence header, alone and of a group: horizontal size.
+pub const AVSPLUS_HEADER_HORIZONTAL_SIZE: usize = 3;
+/// Number of a sequence header, alone and of a group: vertical size.
+pub const AVSPLUS_HEADER_VERTICAL_SIZE: usize = 4;
+/// Number of a sequence header, alone and of a group: chroma format.
+pub const AVSPLUS_HEADER_CHROMA_FORMAT: usize = 5;
+/// Number of a sequence header, alone and of a group: precision.
+pub const AVSPLUS_HEADER_PRECISION: usize = 6;
+/// Number of a sequence header, alone and of a group: aspect, for [`avsplus_display_ratio`].
+pub const AVSPLUS_HEADER_ASPECT: usize = 7;
+/// Number of a sequence header, alone and of a group: frame rate code, for [`avsplus_frame_rate`].
+pub const AVSPLUS_HEADER_FRAME_RATE_CODE: usize = 8;
+/// Number of a sequence header, alone and of a group: bit rate.
+pub const AVSPLUS_HEADER_BIT_RATE: usize = 9;
+/// Number of a sequence header, alone and of a group: low delay.
+pub const AVSPLUS_HEADER_LOW_DELAY: usize = 10;
+/// Number of a sequence header, alone and of a group: buffer size.
+pub const AVSPLUS_HEADER_BUFFER_SIZE: usize = 11;
+/// Number of a sequence header, alone and of a group: macroblock columns.
+pub const AVSPLUS_HEADER_MACROBLOCK_COLUMNS: usize = 12;
+/// Number of a sequence header, alone and of a group: macroblock rows.
+pub const AVSPLUS_HEADER_MACROBLOCK_ROWS: usize = 13;
+/// How many numbers a sequence header has.
 pub const AVSPLUS_HEADER_NUMBERS: usize = 14;
-/// Numbers of a display extension: format, range, width, height, stereo.
-pub const AVSPLUS_DISPLAY_NUMBERS: usize = 5;
-/// Numbers of a colour: primaries, transfer, matrix.
-pub const AVSPLUS_COLOUR_NUMBERS: usize = 3;
-/// Numbers of a copyright extension: flag, owner, original, copyright number.
-pub const AVSPLUS_COPYRIGHT_NUMBERS: usize = 4;
-/// Numbers of a ratio: numerator, denominator.
+
+/// Number of a group: the format of its display extension.
+pub const AVSPLUS_GROUP_DISPLAY_FORMAT: usize = 14;
+/// Number of a group: the range of its display extension.
+pub const AVSPLUS_GROUP_DISPLAY_RANGE: usize = 15;
+/// Number of a group: the width of its display extension.
+pub const AVSPLUS_GROUP_DISPLAY_WIDTH: usize = 16;
+/// Number of a group: the height of its display extension.
+pub const AVSPLUS_GROUP_DISPLAY_HEIGHT: usize = 17;
+/// Number of a group: the stereo of its display extension.
+pub const AVSPLUS_GROUP_DISPLAY_STEREO: usize = 18;
+/// Number of a group: the primaries of its display extension's colour.
+pub const AVSPLUS_GROUP_COLOUR_PRIMARIES: usize = 19;
+/// Number of a group: the transfer of its display extension's colour.
+pub const AVSPLUS_GROUP_COLOUR_TRANSFER: usize = 20;
+/// Number of a group: the matrix of its display extension's colour.
+pub const AVSPLUS_GROUP_COLOUR_MATRIX: usize = 21;
+/// How many numbers a group has without a display extension.
+pub const AVSPLUS_GROUP_PLAIN: usize = 14;
+/// How many with a display extension whose colour is not given.
+pub const AVSPLUS_GROUP_WITH_DISPLAY: usize = 19;
+/// How many with a display extension and its colour: the most.
+pub const AVSPLUS_GROUP_WITH_COLOUR: usize = 22;
+
+/// Number of an extension: its own.
+pub const AVSPLUS_EXTENSION_NUMBER: usize = 0;
+/// Number of a display extension: format.
+pub const AVSPLUS_EXTENSION_DISPLAY_FORMAT: usize = 1;
+/// Number of a display extension: range.
+pub const AVSPLUS_EXTENSION_DISPLAY_RANGE: usize = 2;
+/// Number of a display extension: width.
+pub const AVSPLUS_EXTENSION_DISPLAY_WIDTH: usize = 3;
+/// Number of a display extension: height.
+pub const AVSPLUS_EXTENSION_DISPLAY_HEIGHT: usize = 4;
+/// Number of a display extension: stereo.
+pub const AVSPLUS_EXTENSION_DISPLAY_STEREO: usize = 5;
+/// Number of a display extension's colour: primaries.
+pub const AVSPLUS_EXTENSION_COLOUR_PRIMARIES: usize = 6;
+/// Number of a display extension's colour: transfer.
+pub const AVSPLUS_EXTENSION_COLOUR_TRANSFER: usize = 7;
+/// Number of a display extension's colour: matrix.
+pub const AVSPLUS_EXTENSION_COLOUR_MATRIX: usize = 8;
+/// Number of a copyright extension: flag.
+pub const AVSPLUS_EXTENSION_COPYRIGHT_FLAG: usize = 1;
+/// Number of a copyright extension: owner.
+pub const AVSPLUS_EXTENSION_COPYRIGHT_OWNER: usize = 2;
+/// Number of a copyright extension: original.
+pub const AVSPLUS_EXTENSION_COPYRIGHT_ORIGINAL: usize = 3;
+/// Number of a copyright extension: the copyright number.
+pub const AVSPLUS_EXTENSION_COPYRIGHT_NUMBER: usize = 4;
+/// How many numbers an opaque extension has.
+pub const AVSPLUS_EXTENSION_OPAQUE: usize = 1;
+/// How many a copyright extension has.
+pub const AVSPLUS_EXTENSION_COPYRIGHT: usize = 5;
+/// How many a display extension has whose colour is not given.
+pub const AVSPLUS_EXTENSION_DISPLAY: usize = 6;
+/// How many a display extension has with its colour: the most.
+pub const AVSPLUS_EXTENSION_WITH_COLOUR: usize = 9;
+
+/// Number of a ratio: numerator.
+pub const AVSPLUS_RATIO_NUMERATOR: usize = 0;
+/// Number of a ratio: denominator.
+pub const AVSPLUS_RATIO_DENOMINATOR: usize = 1;
+/// How many numbers a ratio has.
 pub const AVSPLUS_RATIO_NUMBERS: usize = 2;
 
 /// Is no Exp-Golomb number.
@@ -90,9 +187,9 @@ pub const AVSPLUS_NO_KIND: u32 = 8;
 pub struct Answer {
     /// 0, or the number of a refusal.
     pub status: u32,
-    /// Of a refused stream, the refusal's offset in it; 0 where the answer has no place.
-    pub place: usize,
-    /// How many units, numbers or bits were handed over; 0 for a refusal and for what is not given.
+    /// Of a refused stream, where in it the refusal stands; 0 where the answer has no offset.
+    pub offset: usize,
+    /// How many units, numbers or bits there are; 0 for a refusal and for what is not given.
     pub count: usize,
 }
 
@@ -211,8 +308,15 @@ pub struct PairBin {
 }
 
 extern "C" {
-    /// Files a stream. Done: `count` is its units, and the first 3 * `count` words of `rows` hold three for each; later words
-    /// stay. FULL where `words` is less.
+    /// The number of the library's interface: [`AVSPLUS_VERSION`] where these declarations are the library's.
+    pub fn avsplus_version() -> u32;
+
+    /// Checks a stream. Done: `count` is its units, so that filing it takes [`AVSPLUS_ROW_WORDS`] words for each. Refused as
+    /// filing is, but never with FULL.
+    pub fn avsplus_check(stream: *const u8, length: usize) -> Answer;
+
+    /// Files a stream. Done: `count` is its units, and the first [`AVSPLUS_ROW_WORDS`] * `count` words of `rows` hold a row for
+    /// each; later words stay. FULL, last of all, where `words` is less.
     pub fn avsplus_file(stream: *const u8, length: usize, rows: *mut u32, words: usize) -> Answer;
 
     /// Whether row `i` exists: `rows` holds it, and its body ends within the stream.
@@ -221,33 +325,19 @@ extern "C" {
     /// Where the body of row `i` lies in the stream: offset 0 and length 0 where there is no such row.
     pub fn avsplus_row_body(stream: *const u8, length: usize, rows: *const u32, words: usize, i: usize) -> Part;
 
-    /// The sequence header of group `g`, counted from 0: [`AVSPLUS_HEADER_NUMBERS`] numbers. The stream's own refusal comes
-    /// first, then NO ROW where it has no such group, then FULL where fewer numbers are lent.
-    pub fn avsplus_group_header(stream: *const u8, length: usize, g: usize, numbers: *mut u64, lent: usize) -> Answer;
-
-    /// The display extension of group `g`: [`AVSPLUS_DISPLAY_NUMBERS`] numbers, or done with count 0 where it is not given.
-    pub fn avsplus_group_display(stream: *const u8, length: usize, g: usize, numbers: *mut u64, lent: usize) -> Answer;
-
-    /// The colour of group `g`'s display extension: [`AVSPLUS_COLOUR_NUMBERS`] numbers, or done with count 0 where it is not
-    /// given.
-    pub fn avsplus_group_colour(stream: *const u8, length: usize, g: usize, numbers: *mut u64, lent: usize) -> Answer;
+    /// Group `g` of a stream, counted from 0: [`AVSPLUS_GROUP_PLAIN`] numbers, [`AVSPLUS_GROUP_WITH_DISPLAY`] where it has a
+    /// display extension, [`AVSPLUS_GROUP_WITH_COLOUR`] where that has its colour. The stream's own refusal comes first, then
+    /// NO ROW where it has no such group, then FULL where fewer numbers are lent than it has. Each call checks the whole
+    /// stream.
+    pub fn avsplus_group(stream: *const u8, length: usize, g: usize, numbers: *mut u64, lent: usize) -> Answer;
 
     /// A sequence header's body: [`AVSPLUS_HEADER_NUMBERS`] numbers. FULL where the body is good and fewer are lent.
     pub fn avsplus_sequence_header(body: *const u8, length: usize, numbers: *mut u64, lent: usize) -> Answer;
 
-    /// An extension's body, in a group's head or after a picture header: its number, 1 number.
+    /// An extension's body, in a group's head or after a picture header: [`AVSPLUS_EXTENSION_DISPLAY`] numbers for a display
+    /// extension or [`AVSPLUS_EXTENSION_WITH_COLOUR`] with its colour, [`AVSPLUS_EXTENSION_COPYRIGHT`] for a copyright
+    /// extension, [`AVSPLUS_EXTENSION_OPAQUE`] for any other.
     pub fn avsplus_extension(body: *const u8, length: usize, in_head: bool, numbers: *mut u64, lent: usize) -> Answer;
-
-    /// The same body as a display extension: [`AVSPLUS_DISPLAY_NUMBERS`] numbers, or done with count 0 where it is good and
-    /// another extension.
-    pub fn avsplus_display(body: *const u8, length: usize, in_head: bool, numbers: *mut u64, lent: usize) -> Answer;
-
-    /// The colour of a display extension: [`AVSPLUS_COLOUR_NUMBERS`] numbers, or done with count 0 where it is not given.
-    pub fn avsplus_display_colour(body: *const u8, length: usize, in_head: bool, numbers: *mut u64, lent: usize) -> Answer;
-
-    /// The same body as a copyright extension: [`AVSPLUS_COPYRIGHT_NUMBERS`] numbers, or done with count 0 where it is good and
-    /// another extension.
-    pub fn avsplus_copyright(body: *const u8, length: usize, in_head: bool, numbers: *mut u64, lent: usize) -> Answer;
 
     /// The frame rate of a code: [`AVSPLUS_RATIO_NUMBERS`] numbers, or done with count 0 for a code that gives none.
     pub fn avsplus_frame_rate(code: u32, numbers: *mut u64, lent: usize) -> Answer;
@@ -291,7 +381,7 @@ extern "C" {
     /// A stuffing bin.
     pub fn avsplus_stuffing(bytes: *const u8, length: usize, bits: usize, state: State) -> PlainBin;
 
-    /// The first place from `from` on where 00 00 01 stands, or the stream's length.
+    /// The first offset from `from` on where 00 00 01 stands, or the stream's length.
     pub fn avsplus_next_start_code(stream: *const u8, length: usize, from: usize) -> usize;
 
     /// The kind of a unit by its code byte.

@@ -41,9 +41,11 @@ pub enum Reason {
     BadState = raw::AVSPLUS_BAD_STATE,
     /// There is no such row or group.
     NoRow = raw::AVSPLUS_NO_ROW,
+    /// The library's answer is none that this crate knows: it has another interface. It has no number of its own.
+    Unexpected = u32::MAX,
 }
 
-/// All reasons, in the order of their numbers from 1 on.
+/// All reasons that have a number, in the order of these from 1 on.
 const REASONS: [Reason; 16] = [
     Reason::NoCode,
     Reason::Cut,
@@ -76,7 +78,7 @@ impl Reason {
         REASONS.iter().copied().find(|reason| reason.number() == number)
     }
 
-    /// Its number, 1 to 16.
+    /// Its number, 1 to 16; the greatest of all for an unexpected answer.
     pub fn number(self) -> u32 {
         self as u32
     }
@@ -100,6 +102,7 @@ impl Reason {
             Reason::PayloadOut => "PAYLOAD OUT",
             Reason::BadState => "BAD STATE",
             Reason::NoRow => "NO ROW",
+            Reason::Unexpected => "UNEXPECTED",
         }
     }
 
@@ -122,6 +125,7 @@ impl Reason {
             Reason::PayloadOut => "a bit is wanted and none is left",
             Reason::BadState => "a bin state or context is outside its ranges",
             Reason::NoRow => "there is no such unit or group",
+            Reason::Unexpected => "the library has another interface",
         }
     }
 }
@@ -140,16 +144,16 @@ pub struct Refused {
     /// The reason.
     pub reason: Reason,
     /// The offset of the refused unit's start code; 0 for NO CODE, FULL and TOO LONG, the stream's length for UNENDED. NO ROW
-    /// has no place, and 0 here.
-    pub place: usize,
+    /// has no offset, and 0 here.
+    pub offset: usize,
 }
 
 impl Refused {
-    /// The place, where the reason has one: all but NO ROW have.
+    /// The offset, where the reason has one: all but NO ROW have.
     pub fn at(&self) -> Option<usize> {
         match self.reason {
-            Reason::NoRow => None,
-            _ => Some(self.place),
+            Reason::NoRow | Reason::Unexpected => None,
+            _ => Some(self.offset),
         }
     }
 }
@@ -157,7 +161,7 @@ impl Refused {
 impl fmt::Display for Refused {
     fn fmt(&self, f: &mut fmt::Formatter<'_>) -> fmt::Result {
         match self.at() {
-            Some(place) => write!(f, "{} at {}", self.reason, place),
+            Some(offset) => write!(f, "{} at {}", self.reason, offset),
             None => write!(f, "{}", self.reason),
         }
     }
@@ -169,14 +173,14 @@ impl Error for Refused {}
 pub fn check(status: u32) -> Result<(), Reason> {
     match status {
         raw::AVSPLUS_DONE => Ok(()),
-        _ => Err(Reason::from_number(status).expect("the library answers no status over 16")),
+        _ => Err(Reason::from_number(status).unwrap_or(Reason::Unexpected)),
     }
 }
 
-/// An answer about a stream as a result: its count, or its refusal with the place.
+/// An answer about a stream as a result: its count, or its refusal with the offset.
 pub fn check_stream(answer: Answer) -> Result<usize, Refused> {
-    let place = answer.place;
-    check(answer.status).map_err(|reason| Refused { reason, place })?;
+    let offset = answer.offset;
+    check(answer.status).map_err(|reason| Refused { reason, offset })?;
     Ok(answer.count)
 }
 
@@ -205,15 +209,24 @@ mod tests {
     }
 
     #[test]
-    fn refusals_are_shown_with_number_and_place() {
+    fn an_unknown_status_is_unexpected() {
+        assert_eq!((check(0), check(16)), (Ok(()), Err(Reason::NoRow)));
+        assert_eq!(
+            (check(17), check(u32::MAX)),
+            (Err(Reason::Unexpected), Err(Reason::Unexpected))
+        );
+    }
+
+    #[test]
+    fn refusals_are_shown_with_number_and_offset() {
         let refused = Refused {
             reason: Reason::Value,
-            place: 24,
+            offset: 24,
         };
         assert_eq!(refused.to_string(), "VALUE (8) at 24");
         let refused = Refused {
             reason: Reason::NoRow,
-            place: 0,
+            offset: 0,
         };
         assert_eq!(refused.to_string(), "NO ROW (16)");
     }

@@ -1,8 +1,8 @@
 //! Recordings of several groups, and what a refusal leaves as it was.
 
 use avsplus::{
-    decode, file, file_into, group, kind, next_start_code, row_body, row_exists, start, Colour, Context, Extension, Kind,
-    Place, Reason, State, Unit,
+    check, decode, file, file_into, group, kind, next_start_code, row_body, row_exists, start, Colour, Context, Extension,
+    Kind, Reason, Scope, State, Unit,
 };
 
 const HEADER: [u8; 15] = [
@@ -69,8 +69,11 @@ fn groups_agree_whatever_byte_is_changed() {
             stream[place] ^= change;
             let first = group(&stream, 0);
             match file(&stream) {
-                Ok(recording) => assert_eq!(recording.group(0), first.ok()),
-                Err(refused) => assert_eq!(first, Err(refused)),
+                Ok(recording) => {
+                    assert_eq!(check(&stream), Ok(recording.unit_count()));
+                    assert_eq!(recording.group(0), first.ok());
+                }
+                Err(refused) => assert_eq!((check(&stream), first), (Err(refused), Err(refused))),
             }
         }
     }
@@ -130,6 +133,7 @@ fn streams_over_the_limit() {
     assert_eq!(file(&stream).unwrap_err().reason, Reason::TooLong);
     assert_eq!(file(&stream[1..]).unwrap_err().reason, Reason::NoCode);
     assert_eq!(group(&stream, 0).unwrap_err().reason, Reason::TooLong);
+    assert_eq!(check(&stream).unwrap_err().reason, Reason::TooLong);
 }
 
 #[test]
@@ -152,8 +156,8 @@ fn kinds_of_all_codes() {
 
 #[test]
 fn a_copyright_extension() {
-    for place in [Place::Head, Place::Picture] {
-        match avsplus::extension(&COPYRIGHT, place) {
+    for scope in [Scope::Head, Scope::Picture] {
+        match avsplus::extension(&COPYRIGHT, scope) {
             Ok(Extension::Copyright(copyright)) => {
                 assert!(copyright.flag && copyright.original);
                 assert_eq!((copyright.owner, copyright.number), (7, 0x0123_4567_89AB_CDEF));
@@ -161,8 +165,8 @@ fn a_copyright_extension() {
             other => panic!("{:?}", other),
         }
     }
-    assert_eq!(avsplus::extension(&COPYRIGHT[..11], Place::Head), Err(Reason::Short));
-    assert_eq!(avsplus::extension(&[0xB5], Place::Head), Ok(Extension::Opaque(11)));
+    assert_eq!(avsplus::extension(&COPYRIGHT[..11], Scope::Head), Err(Reason::Short));
+    assert_eq!(avsplus::extension(&[0xB5], Scope::Head), Ok(Extension::Opaque(11)));
 }
 
 #[test]

@@ -29,7 +29,7 @@ enum {
 
 typedef struct {
     uint32_t status;
-    size_t place;
+    size_t offset;
     size_t count;
 } answer;
 
@@ -131,67 +131,29 @@ size_t plain_next_by_three(const uint8_t *stream, size_t length, size_t from)
     return next_by_three(stream, length, from);
 }
 
-/* ── layouts ── */
+/* ── bodies ── */
 
-typedef enum { ANY, SET, ONLY, BUT, WITHIN, WITHIN_BUT } rule;
-
+/* A body's bits from the left: its length is tested before. */
 typedef struct {
-    uint32_t width;
-    rule rule;
-    uint32_t least, greatest, but;
-} field;
+    const uint8_t *at;
+    uint32_t used; /* bits of *at that are taken */
+} bit_reader;
 
-typedef struct {
-    size_t fields;
-    size_t least_bytes;
-    const field *field;
-} layout;
-
-static const field HEADER_FIELDS[16] = {
-    {8, ANY, 0, 0, 0},    {8, ANY, 0, 0, 0},    {1, ANY, 0, 0, 0},  {14, BUT, 0, 0, 0},
-    {14, BUT, 0, 0, 0},   {2, WITHIN, 1, 2, 0}, {3, ONLY, 1, 0, 0}, {4, WITHIN, 1, 4, 0},
-    {4, WITHIN, 1, 8, 0}, {18, ANY, 0, 0, 0},   {1, SET, 0, 0, 0},  {12, ANY, 0, 0, 0},
-    {1, ANY, 0, 0, 0},    {1, SET, 0, 0, 0},    {18, ANY, 0, 0, 0}, {3, ANY, 0, 0, 0},
-};
-
-static const field DISPLAY_FIELDS[8] = {
-    {4, ONLY, 2, 0, 0},  {3, ANY, 0, 0, 0}, {1, ANY, 0, 0, 0},  {1, ONLY, 0, 0, 0},
-    {14, ANY, 0, 0, 0}, {1, SET, 0, 0, 0}, {14, ANY, 0, 0, 0}, {2, BUT, 0, 0, 3},
-};
-
-static const field COLOURED_FIELDS[11] = {
-    {4, ONLY, 2, 0, 0}, {3, ANY, 0, 0, 0},         {1, ANY, 0, 0, 0},        {1, ONLY, 1, 0, 0},
-    {8, ANY, 0, 0, 0},  {8, WITHIN_BUT, 1, 10, 3}, {8, WITHIN_BUT, 1, 7, 3}, {14, ANY, 0, 0, 0},
-    {1, SET, 0, 0, 0},  {14, ANY, 0, 0, 0},        {2, BUT, 0, 0, 3},
-};
-
-static const field COPYRIGHT_FIELDS[11] = {
-    {4, ONLY, 4, 0, 0}, {1, ANY, 0, 0, 0},  {8, ANY, 0, 0, 0}, {1, ANY, 0, 0, 0},  {7, ANY, 0, 0, 0},  {1, SET, 0, 0, 0},
-    {20, ANY, 0, 0, 0}, {1, SET, 0, 0, 0}, {22, ANY, 0, 0, 0}, {1, SET, 0, 0, 0}, {22, ANY, 0, 0, 0},
-};
-
-static const layout HEADER = {16, 15, HEADER_FIELDS};
-static const layout DISPLAY = {8, 6, DISPLAY_FIELDS};
-static const layout COLOURED = {11, 9, COLOURED_FIELDS};
-static const layout COPYRIGHT = {11, 12, COPYRIGHT_FIELDS};
-
-static bool allowed(const field *f, uint32_t v)
+static inline uint32_t take(bit_reader *r, uint32_t width)
 {
-    switch (f->rule) {
-    case ANY:
-        return true;
-    case SET:
-        return v == 1;
-    case ONLY:
-        return v == f->least;
-    case BUT:
-        return v != f->but;
-    case WITHIN:
-        return f->least <= v && v <= f->greatest;
-    case WITHIN_BUT:
-        return f->least <= v && v <= f->greatest && v != f->but;
+    uint32_t value = 0;
+    while (0 < width) {
+        uint32_t left = 8 - r->used;
+        uint32_t n = width < left ? width : left;
+        value = value << n | (*r->at >> (left - n) & ((1u << n) - 1));
+        r->used += n;
+        width -= n;
+        if (r->used == 8) {
+            r->at++;
+            r->used = 0;
+        }
     }
-    return false;
+    return value;
 }
 
 static bool is_stuffed(const uint8_t *body, size_t length, size_t k)
@@ -204,79 +166,124 @@ static bool is_stuffed(const uint8_t *body, size_t length, size_t k)
     return true;
 }
 
-/* The rules across a copyright extension's fields. */
-static bool owned(const uint32_t values[16])
-{
-    uint64_t number = (uint64_t)values[6] * 17592186044416u + (uint64_t)values[8] * 4194304u + values[10];
-    return values[2] == 0 ? number == 0 : values[1] != 0;
-}
+typedef struct {
+    uint32_t profile, level, progressive, horizontal, vertical, chroma, precision, aspect, rate, bitrate, delay, buffer;
+} header;
 
-static uint32_t read_values(const layout *l, const uint8_t *body, size_t length, uint32_t values[16])
+static uint32_t read_header(const uint8_t *body, size_t length, header *h)
 {
-    size_t at = 0;
-    for (size_t i = 0; i < l->fields; i++) {
-        uint32_t width = l->field[i].width;
-        if (!read_bits(body, length, at + width, at, width, &values[i]))
-            return SHORT;
-        at += width;
-    }
-    return DONE;
-}
-
-static uint32_t judge_values(const layout *l, const uint32_t values[16])
-{
-    for (size_t i = 0; i < l->fields; i++)
-        if (!allowed(&l->field[i], values[i]))
-            return l->field[i].rule == SET ? MARKER : VALUE;
-    if (l == &COPYRIGHT && !owned(values))
-        return VALUE;
-    return DONE;
-}
-
-/* The values of a body's fields, or its refusal. */
-static uint32_t read_body(const layout *l, const uint8_t *body, size_t length, uint32_t values[16])
-{
-    if (length < l->least_bytes)
+    if (length < 15)
         return SHORT;
-    uint32_t status = read_values(l, body, length, values);
-    if (status == DONE)
-        status = judge_values(l, values);
-    if (status == DONE && !is_stuffed(body, length, l->least_bytes - 1))
-        status = STUFFING;
-    return status;
+    bit_reader r = {body, 0};
+    h->profile = take(&r, 8);
+    h->level = take(&r, 8);
+    h->progressive = take(&r, 1);
+    h->horizontal = take(&r, 14);
+    h->vertical = take(&r, 14);
+    h->chroma = take(&r, 2);
+    h->precision = take(&r, 3);
+    h->aspect = take(&r, 4);
+    h->rate = take(&r, 4);
+    if (h->horizontal == 0 || h->vertical == 0 || h->chroma < 1 || 2 < h->chroma || h->precision != 1)
+        return VALUE;
+    if (h->aspect < 1 || 4 < h->aspect || h->rate < 1 || 8 < h->rate)
+        return VALUE;
+    h->bitrate = take(&r, 18);
+    if (take(&r, 1) == 0)
+        return MARKER;
+    h->bitrate += take(&r, 12) << 18;
+    h->delay = take(&r, 1);
+    if (take(&r, 1) == 0)
+        return MARKER;
+    h->buffer = take(&r, 18);
+    return is_stuffed(body, length, 14) ? DONE : STUFFING;
 }
 
-static bool is_display(const uint8_t *body, size_t length)
-{
-    uint32_t number;
-    return read_bits(body, length, 4, 0, 4, &number) && number == 2;
-}
+typedef struct {
+    uint32_t format, range, coloured, primaries, transfer, matrix, width, height, stereo;
+} display;
 
 static bool display_short(const uint8_t *body, size_t length)
 {
-    return length < 6 || (read_bit(body, length, 9, 8) == 1 && length < 9);
+    return length < 6 || (128 <= body[1] && length < 9);
 }
 
-static uint32_t read_display(const uint8_t *body, size_t length)
+static uint32_t read_display(const uint8_t *body, size_t length, display *d)
 {
-    uint32_t values[16];
     if (display_short(body, length))
         return SHORT;
-    return read_body(read_bit(body, length, 9, 8) == 1 ? &COLOURED : &DISPLAY, body, length, values);
+    bit_reader r = {body, 4};
+    d->format = take(&r, 3);
+    d->range = take(&r, 1);
+    d->coloured = take(&r, 1);
+    if (d->coloured) {
+        d->primaries = take(&r, 8);
+        d->transfer = take(&r, 8);
+        d->matrix = take(&r, 8);
+        if (d->transfer == 0 || d->transfer == 3 || 10 < d->transfer || d->matrix == 0 || d->matrix == 3 || 7 < d->matrix)
+            return VALUE;
+    }
+    d->width = take(&r, 14);
+    if (take(&r, 1) == 0)
+        return MARKER;
+    d->height = take(&r, 14);
+    d->stereo = take(&r, 2);
+    if (d->stereo == 3)
+        return VALUE;
+    return is_stuffed(body, length, d->coloured ? 8 : 5) ? DONE : STUFFING;
 }
 
-/* An extension's status, and whether it is opaque. */
-static uint32_t read_extension(const uint8_t *body, size_t length, bool in_head, bool *opaque)
+typedef struct {
+    uint32_t flag, owner, original;
+    uint64_t number;
+} copyright;
+
+static uint32_t read_copyright(const uint8_t *body, size_t length, copyright *c)
 {
-    uint32_t number, values[16];
-    *opaque = false;
-    if (!read_bits(body, length, 4, 0, 4, &number))
+    if (length < 12)
         return SHORT;
-    if (number == 4)
-        return read_body(&COPYRIGHT, body, length, values);
-    if (in_head && number == 2)
-        return read_display(body, length);
-    *opaque = true;
+    bit_reader r = {body, 4};
+    c->flag = take(&r, 1);
+    c->owner = take(&r, 8);
+    c->original = take(&r, 1);
+    take(&r, 7);
+    if (take(&r, 1) == 0)
+        return MARKER;
+    c->number = take(&r, 20);
+    if (take(&r, 1) == 0)
+        return MARKER;
+    c->number = c->number << 22 | take(&r, 22);
+    if (take(&r, 1) == 0)
+        return MARKER;
+    c->number = c->number << 22 | take(&r, 22);
+    if (c->owner == 0 ? c->number != 0 : c->flag == 0)
+        return VALUE;
+    return is_stuffed(body, length, 11) ? DONE : STUFFING;
+}
+
+typedef enum { OPAQUE, DISPLAY, COPYRIGHT } extension;
+
+/* What a body that is not empty is by its number. */
+static extension extension_of(const uint8_t *body, bool in_head)
+{
+    uint32_t number = body[0] >> 4;
+    return number == 4 ? COPYRIGHT : number == 2 && in_head ? DISPLAY : OPAQUE;
+}
+
+static uint32_t read_extension(const uint8_t *body, size_t length, bool in_head)
+{
+    display d;
+    copyright c;
+    if (length == 0)
+        return SHORT;
+    switch (extension_of(body, in_head)) {
+    case DISPLAY:
+        return read_display(body, length, &d);
+    case COPYRIGHT:
+        return read_copyright(body, length, &c);
+    case OPAQUE:
+        return DONE;
+    }
     return DONE;
 }
 
@@ -316,28 +323,25 @@ static size_t trimmed_length(const uint8_t *body, size_t length)
 
 static uint32_t header_step(state *s, const uint8_t *body, size_t length)
 {
-    uint32_t values[16];
-    uint32_t status = read_body(&HEADER, body, length, values);
+    header h;
+    uint32_t status = read_header(body, length, &h);
     if (status != DONE)
         return status;
     s->where = HEAD;
     s->display = false;
-    s->tested = values[4] <= 2800;
-    s->rows = (values[4] + 15) / 16;
+    s->tested = h.vertical <= 2800;
+    s->rows = (h.vertical + 15) / 16;
     return DONE;
 }
 
 static uint32_t head_extension(state *s, const uint8_t *body, size_t length)
 {
-    bool opaque;
-    if (!is_display(body, length))
-        return read_extension(body, length, true, &opaque);
-    if (display_short(body, length))
-        return SHORT;
-    if (s->display)
-        return TWICE;
-    s->display = true;
-    return read_extension(body, length, true, &opaque);
+    if (length != 0 && extension_of(body, true) == DISPLAY) {
+        if (s->display && !display_short(body, length))
+            return TWICE;
+        s->display = true;
+    }
+    return read_extension(body, length, true);
 }
 
 static uint32_t picture_step(state *s, const uint8_t *body, size_t length)
@@ -383,13 +387,12 @@ static uint32_t in_head(state *s, uint8_t code, const uint8_t *body, size_t leng
 
 static uint32_t in_picture(state *s, uint8_t code, const uint8_t *body, size_t length)
 {
-    bool opaque;
     if (code < 0xB0)
         return slice_step(s, 0, code, body, length);
     if (code == 0xB2)
         return DONE;
     if (code == 0xB5)
-        return read_extension(body, length, false, &opaque);
+        return read_extension(body, length, false);
     return OUT_OF_PLACE;
 }
 
@@ -433,16 +436,11 @@ static uint32_t step_unit(state *s, uint8_t code, const uint8_t *body, size_t le
     return OUT_OF_PLACE;
 }
 
+/* The body of a good unit: the whole of user data and opaque extensions. */
 static size_t row_length(bool in_head, uint8_t code, const uint8_t *body, size_t length)
 {
-    bool opaque;
-    if (code == 0xB2)
-        return length;
-    if (code == 0xB5) {
-        read_extension(body, length, in_head, &opaque);
-        return opaque ? length : trimmed_length(body, length);
-    }
-    return trimmed_length(body, length);
+    bool whole = code == 0xB2 || (code == 0xB5 && extension_of(body, in_head) == OPAQUE);
+    return whole ? length : trimmed_length(body, length);
 }
 
 /* ── filing ── */
@@ -509,7 +507,26 @@ WITH_SEARCH void write_rows(search next, const uint8_t *stream, size_t n, uint32
     }
 }
 
-WITH_SEARCH answer file(search next, const uint8_t *stream, size_t n, uint32_t *rows, size_t words)
+/* The same rows with no body read again: of what was checked only heads are to be known. */
+WITH_SEARCH void write_rows_unread(search next, const uint8_t *stream, size_t n, uint32_t *rows)
+{
+    bool head = false;
+    size_t at = 0;
+    while (at < n) {
+        uint8_t code = stream[at + 3];
+        size_t end = next(stream, n, at + 3);
+        rows[0] = code;
+        rows[1] = (uint32_t)at;
+        rows[2] = (uint32_t)row_length(head, code, stream + at + 4, end - (at + 4));
+        rows += 3;
+        head = code == 0xB0 || (head && code != 0xB3);
+        at = end;
+    }
+}
+
+typedef void writer(search next, const uint8_t *stream, size_t n, uint32_t *rows);
+
+WITH_SEARCH answer file(search next, writer write, const uint8_t *stream, size_t n, uint32_t *rows, size_t words)
 {
     if (LONGEST_STREAM < n)
         return (answer){TOO_LONG, 0, 0};
@@ -518,18 +535,23 @@ WITH_SEARCH answer file(search next, const uint8_t *stream, size_t n, uint32_t *
         return a;
     if (words / 3 < a.count)
         return (answer){FULL, 0, 0};
-    write_rows(next, stream, n, rows);
+    write(next, stream, n, rows);
     return a;
 }
 
 answer plain_file(const uint8_t *stream, size_t length, uint32_t *rows, size_t words)
 {
-    return file(next_prefix, stream, length, rows, words);
+    return file(next_prefix, write_rows, stream, length, rows, words);
 }
 
 answer plain_file_by_three(const uint8_t *stream, size_t length, uint32_t *rows, size_t words)
 {
-    return file(next_by_three, stream, length, rows, words);
+    return file(next_by_three, write_rows, stream, length, rows, words);
+}
+
+answer plain_file_reading_once(const uint8_t *stream, size_t length, uint32_t *rows, size_t words)
+{
+    return file(next_by_three, write_rows_unread, stream, length, rows, words);
 }
 
 /* ── escape removal ── */

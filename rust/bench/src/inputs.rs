@@ -39,6 +39,7 @@ pub struct Shape {
 const HEADER: [u8; 15] = [
     0x48, 0x40, 0x0F, 0x00, 0x21, 0xC2, 0x4C, 0xC4, 0xE2, 0x08, 0x00, 0x20, 0x02, 0x00, 0x80,
 ];
+const DISPLAY: [u8; 6] = [0x22, 0x0F, 0x01, 0x10, 0xE0, 0x80];
 const COLOURED_DISPLAY: [u8; 9] = [0x23, 0x80, 0x80, 0x80, 0x8F, 0x01, 0x21, 0xC0, 0x80];
 
 /// What is kept free before the last slice: a group's head, a picture header and the sequence end.
@@ -85,6 +86,62 @@ fn push_slices(stream: &mut Vec<u8>, random: &mut Random, shape: &Shape) -> bool
         }
     }
     false
+}
+
+/// What stands between a head's display extension and its picture.
+const HEAD_ITEMS: usize = 24;
+
+/// A good recording of at least `length` bytes, nearly all heads: to each group a display extension, copyright and opaque
+/// extensions and user data, and one picture of one slice, a byte each.
+pub fn heads(length: usize) -> Vec<u8> {
+    let mut random = Random::new(7);
+    let mut stream = Vec::new();
+    while stream.len() < length {
+        push_head(&mut stream, &mut random);
+        push_unit(&mut stream, 0xB3, &[0x80]);
+        push_unit(&mut stream, 0x00, &[0x80]);
+    }
+    push_unit(&mut stream, 0xB1, &[]);
+    stream
+}
+
+fn push_head(stream: &mut Vec<u8>, random: &mut Random) {
+    push_unit(stream, 0xB0, &HEADER);
+    let display: &[u8] = if random.next() % 2 == 0 { &DISPLAY } else { &COLOURED_DISPLAY };
+    push_unit(stream, 0xB5, display);
+    for _ in 0..HEAD_ITEMS {
+        match random.next() % 4 {
+            0 => push_unit(stream, 0xB2, &small_body(random)),
+            1 => push_unit(stream, 0xB5, &opaque(random)),
+            _ => push_unit(stream, 0xB5, &copyright(random)),
+        }
+    }
+}
+
+fn small_body(random: &mut Random) -> Vec<u8> {
+    let count = random.within(2, 12);
+    body(random, count)
+}
+
+/// An extension of number 5 to 15.
+fn opaque(random: &mut Random) -> Vec<u8> {
+    let mut bytes = small_body(random);
+    bytes[0] = (random.within(5, 16) * 16) as u8;
+    bytes
+}
+
+/// A copyright extension with a claim, an owner and a number.
+fn copyright(random: &mut Random) -> Vec<u8> {
+    loop {
+        let owner = random.within(1, 256) as u128;
+        let (reserved, number) = (u128::from(random.next() % 128), u128::from(random.next()));
+        let claim = (((4 << 1 | 1) << 8 | owner) << 1 | 1) << 8 | reserved << 1 | 1;
+        let parts = (number >> 44 << 1 | 1) << 45 | (number >> 22 & 0x3F_FFFF) << 23 | 1 << 22 | number & 0x3F_FFFF;
+        let bytes = ((claim << 66 | parts) << 8 | 0x80).to_be_bytes();
+        if bytes.windows(3).skip(4).all(|three| three != [0, 0, 1]) {
+            return bytes[4..].to_vec();
+        }
+    }
 }
 
 /// Random bytes that hold no 00 00 01 and do not end in 00.

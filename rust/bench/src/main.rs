@@ -14,8 +14,9 @@ use std::process::exit;
 
 type Row = fn(&'static str, Scale) -> Measured;
 
-const ROWS: [(&str, Row); 7] = [
+const ROWS: [(&str, Row); 8] = [
     ("filing", rows::filing),
+    ("heads-alone", rows::heads_alone),
     ("search", rows::search),
     ("escapes-rich", rows::escapes_rich),
     ("escapes-sparse", rows::escapes_sparse),

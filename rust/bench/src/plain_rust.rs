@@ -32,7 +32,7 @@ fn read_bit(bytes: &[u8], count: usize, place: usize) -> Option<u32> {
     bytes.get(place / 8).map(|&byte| u32::from(byte) >> (7 - place % 8) & 1)
 }
 
-pub fn read_bits(bytes: &[u8], count: usize, place: usize, width: usize) -> Option<u32> {
+fn read_bits(bytes: &[u8], count: usize, place: usize, width: usize) -> Option<u32> {
     (place..place + width).try_fold(0, |value, at| read_bit(bytes, count, at).map(|bit| value * 2 + bit))
 }
 
@@ -80,7 +80,7 @@ impl Packer {
 pub fn remove_escapes(raw: &[u8], output: &mut [u8]) -> Answer {
     let refused = |status| Answer {
         status,
-        place: 0,
+        offset: 0,
         count: 0,
     };
     if LONGEST_PAYLOAD < raw.len() {
@@ -98,7 +98,7 @@ pub fn remove_escapes(raw: &[u8], output: &mut [u8]) -> Answer {
     }
     Answer {
         status: 0,
-        place: 0,
+        offset: 0,
         count: packer.finish(output),
     }
 }

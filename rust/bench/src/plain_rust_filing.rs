@@ -1,182 +1,195 @@
-//! Filing in plain Rust: two passes, unit by unit, with layouts read from a field table.
+//! Filing in plain Rust: two passes, unit by unit, with bodies read by a bit reader.
 use crate::library::Answer;
-use crate::plain_rust::{next, read_bits, status};
+use crate::plain_rust::{next, status};
 
 const LONGEST_STREAM: usize = 16_777_216;
 
-// ── layouts ──
+// ── bodies ──
 
-#[derive(Clone, Copy)]
-enum Rule {
-    Any,
-    Set,
-    Only(u32),
-    But(u32),
-    Within(u32, u32),
-    WithinBut(u32, u32, u32),
+/// A body's bits from the left: its length is tested before.
+struct BitReader<'a> {
+    bytes: &'a [u8],
+    place: usize,
 }
 
-use Rule::{Any, But, Only, Set, Within, WithinBut};
+impl BitReader<'_> {
+    fn take(&mut self, mut width: usize) -> u32 {
+        let mut value = 0;
+        while 0 < width {
+            let left = 8 - self.place % 8;
+            let n = width.min(left);
+            let byte = u32::from(self.bytes[self.place / 8]);
+            value = value << n | byte >> (left - n) & ((1 << n) - 1);
+            self.place += n;
+            width -= n;
+        }
+        value
+    }
 
-struct Layout {
-    least_bytes: usize,
-    fields: &'static [(usize, Rule)],
-}
-
-const HEADER: Layout = Layout {
-    least_bytes: 15,
-    fields: &[
-        (8, Any),
-        (8, Any),
-        (1, Any),
-        (14, But(0)),
-        (14, But(0)),
-        (2, Within(1, 2)),
-        (3, Only(1)),
-        (4, Within(1, 4)),
-        (4, Within(1, 8)),
-        (18, Any),
-        (1, Set),
-        (12, Any),
-        (1, Any),
-        (1, Set),
-        (18, Any),
-        (3, Any),
-    ],
-};
-
-const DISPLAY: Layout = Layout {
-    least_bytes: 6,
-    fields: &[
-        (4, Only(2)),
-        (3, Any),
-        (1, Any),
-        (1, Only(0)),
-        (14, Any),
-        (1, Set),
-        (14, Any),
-        (2, But(3)),
-    ],
-};
-
-const COLOURED: Layout = Layout {
-    least_bytes: 9,
-    fields: &[
-        (4, Only(2)),
-        (3, Any),
-        (1, Any),
-        (1, Only(1)),
-        (8, Any),
-        (8, WithinBut(1, 10, 3)),
-        (8, WithinBut(1, 7, 3)),
-        (14, Any),
-        (1, Set),
-        (14, Any),
-        (2, But(3)),
-    ],
-};
-
-const COPYRIGHT: Layout = Layout {
-    least_bytes: 12,
-    fields: &[
-        (4, Only(4)),
-        (1, Any),
-        (8, Any),
-        (1, Any),
-        (7, Any),
-        (1, Set),
-        (20, Any),
-        (1, Set),
-        (22, Any),
-        (1, Set),
-        (22, Any),
-    ],
-};
-
-fn allowed(rule: Rule, v: u32) -> bool {
-    match rule {
-        Any => true,
-        Set => v == 1,
-        Only(one) => v == one,
-        But(one) => v != one,
-        Within(least, greatest) => (least..=greatest).contains(&v),
-        WithinBut(least, greatest, one) => (least..=greatest).contains(&v) && v != one,
+    fn marker(&mut self) -> Result<(), u32> {
+        match self.take(1) {
+            1 => Ok(()),
+            _ => Err(status::MARKER),
+        }
     }
 }
 
-fn read_values(layout: &Layout, body: &[u8]) -> Option<[u32; 16]> {
-    let mut values = [0; 16];
-    let mut at = 0;
-    for (value, &(width, _)) in values.iter_mut().zip(layout.fields) {
-        *value = read_bits(body, at + width, at, width)?;
-        at += width;
-    }
-    Some(values)
-}
-
-fn judge(layout: &Layout, values: &[u32; 16]) -> Result<(), u32> {
-    match layout.fields.iter().zip(values).find(|(field, &v)| !allowed(field.1, v)) {
-        Some(((_, Set), _)) => Err(status::MARKER),
-        Some(_) => Err(status::VALUE),
-        None => Ok(()),
-    }
-}
-
-fn is_stuffed(end: &[u8]) -> bool {
-    end[0] == 128 && end[1..].iter().all(|&byte| byte == 0)
-}
-
-/// The values of a body's fields; `across` is the rule across them.
-fn read_body(layout: &Layout, body: &[u8], across: fn(&[u32; 16]) -> bool) -> Result<[u32; 16], u32> {
-    if body.len() < layout.least_bytes {
-        return Err(status::SHORT);
-    }
-    let values = read_values(layout, body).ok_or(status::SHORT)?;
-    judge(layout, &values)?;
-    if !across(&values) {
+fn ruled_out(found: bool) -> Result<(), u32> {
+    if found {
         return Err(status::VALUE);
     }
-    if !is_stuffed(&body[layout.least_bytes - 1..]) {
-        return Err(status::STUFFING);
-    }
-    Ok(values)
+    Ok(())
 }
 
-fn no_rule(_: &[u32; 16]) -> bool {
-    true
+/// The last byte of the fields and what follows it.
+fn stuffed(end: &[u8]) -> Result<(), u32> {
+    if end[0] == 128 && end[1..].iter().all(|&byte| byte == 0) {
+        return Ok(());
+    }
+    Err(status::STUFFING)
 }
 
-fn owner_rules(values: &[u32; 16]) -> bool {
-    let number = u64::from(values[6]) << 44 | u64::from(values[8]) << 22 | u64::from(values[10]);
-    if values[2] == 0 {
-        number == 0
-    } else {
-        values[1] != 0
+// Records as a caller would want them, though filing asks for the vertical size alone.
+#[allow(dead_code)]
+struct Header {
+    profile: u32,
+    level: u32,
+    progressive: u32,
+    horizontal: u32,
+    vertical: u32,
+    chroma: u32,
+    precision: u32,
+    aspect: u32,
+    rate: u32,
+    bitrate: u32,
+    delay: u32,
+    buffer: u32,
+}
+
+fn read_header(body: &[u8]) -> Result<Header, u32> {
+    if body.len() < 15 {
+        return Err(status::SHORT);
     }
+    let mut bits = BitReader { bytes: body, place: 0 };
+    let (profile, level, progressive) = (bits.take(8), bits.take(8), bits.take(1));
+    let (horizontal, vertical) = (bits.take(14), bits.take(14));
+    let (chroma, precision, aspect, rate) = (bits.take(2), bits.take(3), bits.take(4), bits.take(4));
+    ruled_out(horizontal == 0 || vertical == 0 || !(1..=2).contains(&chroma) || precision != 1)?;
+    ruled_out(!(1..=4).contains(&aspect) || !(1..=8).contains(&rate))?;
+    let low = bits.take(18);
+    bits.marker()?;
+    let bitrate = bits.take(12) << 18 | low;
+    let delay = bits.take(1);
+    bits.marker()?;
+    let buffer = bits.take(18);
+    stuffed(&body[14..])?;
+    Ok(Header {
+        profile,
+        level,
+        progressive,
+        horizontal,
+        vertical,
+        chroma,
+        precision,
+        aspect,
+        rate,
+        bitrate,
+        delay,
+        buffer,
+    })
+}
+
+#[allow(dead_code)]
+struct Display {
+    format: u32,
+    range: u32,
+    colour: Option<(u32, u32, u32)>,
+    width: u32,
+    height: u32,
+    stereo: u32,
 }
 
 fn display_short(body: &[u8]) -> bool {
-    body.len() < 6 || (coloured(body) && body.len() < 9)
+    body.len() < 6 || (128 <= body[1] && body.len() < 9)
 }
 
-fn coloured(body: &[u8]) -> bool {
-    read_bits(body, 9, 8, 1) == Some(1)
+fn read_display(body: &[u8]) -> Result<Display, u32> {
+    if display_short(body) {
+        return Err(status::SHORT);
+    }
+    let mut bits = BitReader { bytes: body, place: 4 };
+    let (format, range) = (bits.take(3), bits.take(1));
+    let mut colour = None;
+    if bits.take(1) == 1 {
+        let (primaries, transfer, matrix) = (bits.take(8), bits.take(8), bits.take(8));
+        ruled_out(matches!(transfer, 0 | 3 | 11..) || matches!(matrix, 0 | 3 | 8..))?;
+        colour = Some((primaries, transfer, matrix));
+    }
+    let width = bits.take(14);
+    bits.marker()?;
+    let (height, stereo) = (bits.take(14), bits.take(2));
+    ruled_out(stereo == 3)?;
+    stuffed(&body[bits.place / 8..])?;
+    Ok(Display {
+        format,
+        range,
+        colour,
+        width,
+        height,
+        stereo,
+    })
 }
 
-#[derive(Clone, Copy, PartialEq, Eq)]
+#[allow(dead_code)]
+struct Copyright {
+    flag: u32,
+    owner: u32,
+    original: u32,
+    number: u64,
+}
+
+fn read_copyright(body: &[u8]) -> Result<Copyright, u32> {
+    if body.len() < 12 {
+        return Err(status::SHORT);
+    }
+    let mut bits = BitReader { bytes: body, place: 4 };
+    let (flag, owner, original) = (bits.take(1), bits.take(8), bits.take(1));
+    bits.take(7);
+    bits.marker()?;
+    let mut number = u64::from(bits.take(20));
+    for _ in 0..2 {
+        bits.marker()?;
+        number = number << 22 | u64::from(bits.take(22));
+    }
+    ruled_out(if owner == 0 { number != 0 } else { flag == 0 })?;
+    stuffed(&body[11..])?;
+    Ok(Copyright {
+        flag,
+        owner,
+        original,
+        number,
+    })
+}
+
+#[allow(dead_code)]
 enum Extension {
-    Read,
+    Display(Display),
+    Copyright(Copyright),
     Opaque,
 }
 
 fn read_extension(body: &[u8], in_head: bool) -> Result<Extension, u32> {
-    match read_bits(body, 4, 0, 4).ok_or(status::SHORT)? {
-        4 => read_body(&COPYRIGHT, body, owner_rules).map(|_| Extension::Read),
-        2 if in_head && display_short(body) => Err(status::SHORT),
-        2 if in_head && coloured(body) => read_body(&COLOURED, body, no_rule).map(|_| Extension::Read),
-        2 if in_head => read_body(&DISPLAY, body, no_rule).map(|_| Extension::Read),
+    match body.first().ok_or(status::SHORT)? >> 4 {
+        4 => read_copyright(body).map(Extension::Copyright),
+        2 if in_head => read_display(body).map(Extension::Display),
         _ => Ok(Extension::Opaque),
     }
+}
+
+/// Whether a good extension is opaque, by its number alone.
+fn is_opaque(body: &[u8], in_head: bool) -> bool {
+    let number = body[0] >> 4;
+    number != 4 && !(number == 2 && in_head)
 }
 
 // ── one unit ──
@@ -198,20 +211,17 @@ enum State {
 }
 
 fn header_step(body: &[u8]) -> Result<State, u32> {
-    let values = read_body(&HEADER, body, no_rule)?;
+    let vertical = read_header(body)?.vertical;
     let rule = SliceRule {
-        tested: values[4] <= 2800,
-        rows: (values[4] + 15) / 16,
+        tested: vertical <= 2800,
+        rows: (vertical + 15) / 16,
     };
     Ok(State::Head(rule, false))
 }
 
 fn head_extension(rule: SliceRule, display: bool, body: &[u8]) -> Result<State, u32> {
-    let is_display = read_bits(body, 4, 0, 4) == Some(2);
-    if is_display && display_short(body) {
-        return Err(status::SHORT);
-    }
-    if is_display && display {
+    let is_display = body.first().map_or(false, |byte| byte >> 4 == 2);
+    if is_display && display && !display_short(body) {
         return Err(status::TWICE);
     }
     read_extension(body, true).map(|_| State::Head(rule, display || is_display))
@@ -265,9 +275,10 @@ fn step_unit(state: State, code: u8, body: &[u8]) -> Result<State, u32> {
     }
 }
 
+/// The body of a good unit: the whole of user data and opaque extensions.
 fn row_length(state: State, code: u8, body: &[u8]) -> usize {
     let in_head = matches!(state, State::Head(..));
-    if code == 0xB2 || code == 0xB5 && read_extension(body, in_head) == Ok(Extension::Opaque) {
+    if code == 0xB2 || code == 0xB5 && is_opaque(body, in_head) {
         return body.len();
     }
     body.iter().rposition(|&byte| byte != 0).map_or(0, |last| last + 1)
@@ -291,7 +302,7 @@ fn unit_at(stream: &[u8], state: State, at: usize) -> Result<(State, usize, usiz
 
 // ── filing ──
 
-/// The number of units, or a refusal and its place.
+/// The number of units, or a refusal and its offset.
 fn check(stream: &[u8]) -> Result<usize, (u32, usize)> {
     if LONGEST_STREAM < stream.len() {
         return Err((status::TOO_LONG, 0));
@@ -325,13 +336,13 @@ fn write_rows(stream: &[u8], rows: &mut [u32]) {
 
 #[inline(never)]
 pub fn file(stream: &[u8], rows: &mut [u32]) -> Answer {
-    let answer = |status, place, count| Answer { status, place, count };
+    let answer = |status, offset, count| Answer { status, offset, count };
     match check(stream) {
         Ok(units) if rows.len() / 3 < units => answer(status::FULL, 0, 0),
         Ok(units) => {
             write_rows(stream, &mut rows[..units * 3]);
             answer(0, 0, units)
         }
-        Err((why, place)) => answer(why, place, 0),
+        Err((why, offset)) => answer(why, offset, 0),
     }
 }

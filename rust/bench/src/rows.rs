@@ -5,6 +5,7 @@ use crate::measure::{measure, Measured, Rival, Work, LIBRARY, SAME};
 use crate::{plain_c, plain_rust};
 
 const BY_THREE: &str = "plain C, steps of three";
+const READ_ONCE: &str = "plain C, by three, read once";
 const BIT_BY_BIT: &str = "plain C, bit by bit";
 const BYTE_WISE: &str = "plain C, byte-wise";
 const RUST: &str = "plain Rust";
@@ -24,10 +25,11 @@ type Remove = fn(&[u8], &mut [u8]) -> Answer;
 
 // ── filing ──
 
-const FILE: [(&str, File); 4] = [
+const FILE: [(&str, File); 5] = [
     (LIBRARY, library::file),
     (SAME, plain_c::file),
     (BY_THREE, plain_c::file_by_three),
+    (READ_ONCE, plain_c::file_reading_once),
     (RUST, plain_rust::file),
 ];
 
@@ -41,10 +43,25 @@ pub fn filing(row: &'static str, scale: Scale) -> Measured {
         slices: 68,
         slice: (200, 2500),
     });
-    let words = check_filing(&stream);
-    check_refusals();
+    let good = inputs::recording(&Shape {
+        length: 1000,
+        pictures: 2,
+        slices: 3,
+        slice: (1, 9),
+    });
+    measure_filing(row, scale, &stream, &good)
+}
+
+/// Bodies are what there is to read.
+pub fn heads_alone(row: &'static str, scale: Scale) -> Measured {
+    measure_filing(row, scale, &inputs::heads(scale.stream / 8), &inputs::heads(1000))
+}
+
+/// Files a recording; a small one is spoiled to see that all rivals refuse alike.
+fn measure_filing(row: &'static str, scale: Scale, stream: &[u8], small: &[u8]) -> Measured {
+    let words = check_filing(stream);
+    check_refusals(small);
     let rivals = FILE.iter().map(|&(name, file)| {
-        let stream = &stream;
         let mut rows = vec![UNTOUCHED; words];
         let run = Box::new(move || file(stream, &mut rows).count as u64);
         Rival { name, run }
@@ -74,16 +91,10 @@ fn check_filing(stream: &[u8]) -> usize {
 }
 
 /// Rivals that tested less would be no rivals: each refuses what the library refuses.
-fn check_refusals() {
+fn check_refusals(good: &[u8]) {
     let mut random = Random::new(6);
-    let good = inputs::recording(&Shape {
-        length: 1000,
-        pictures: 2,
-        slices: 3,
-        slice: (1, 9),
-    });
     for _ in 0..20_000 {
-        let stream = inputs::spoiled(&good, &mut random);
+        let stream = inputs::spoiled(good, &mut random);
         let words = random.within(0, 300);
         let expected = filed(library::file, &stream, words);
         for (name, file) in FILE {

@@ -1,29 +1,14 @@
 //! Single bodies, and the codes that stand for ratios and kinds.
 
-use avsplus::raw::{
-    AVSPLUS_COLOUR_NUMBERS, AVSPLUS_COPYRIGHT_NUMBERS, AVSPLUS_DISPLAY_NUMBERS, AVSPLUS_HEADER_NUMBERS, AVSPLUS_LONGEST_STREAM,
-    AVSPLUS_RATIO_NUMBERS,
-};
+use avsplus::raw::{AVSPLUS_EXTENSION_WITH_COLOUR, AVSPLUS_HEADER_NUMBERS, AVSPLUS_LONGEST_STREAM, AVSPLUS_RATIO_NUMBERS};
 use independent::generate::{extension_body, header_body, Random};
 
-use crate::comparison::{alone, Comparison};
-use crate::decoder::{BodyNumbers, CodeNumbers, Decoder};
+use crate::comparison::{alone, rooms, Comparison, ALL_ROOMS};
+use crate::decoder::{CodeNumbers, Decoder};
 use crate::inputs::{letters, pick};
 use crate::report::Question;
 
-/// A question about an extension's body and how many numbers it wants.
-type Asked = (Question, usize, fn(&Decoder) -> BodyNumbers);
-
-const EXTENSION_QUESTIONS: [Asked; 4] = [
-    (Question::Extension, 1, |decoder| decoder.extension),
-    (Question::Display, AVSPLUS_DISPLAY_NUMBERS, |decoder| decoder.display),
-    (Question::DisplayColour, AVSPLUS_COLOUR_NUMBERS, |decoder| {
-        decoder.display_colour
-    }),
-    (Question::Copyright, AVSPLUS_COPYRIGHT_NUMBERS, |decoder| decoder.copyright),
-];
-
-/// The same for a code.
+/// A question about a code.
 type AskedOfCode = (Question, fn(&Decoder) -> CodeNumbers);
 
 const CODE_QUESTIONS: [AskedOfCode; 2] = [
@@ -38,7 +23,7 @@ pub(crate) fn generated(comparison: &mut Comparison, random: &mut Random, count:
             4..=8 => extension_body(random),
             _ => any_body(random),
         };
-        comparison.input(bytes, questions);
+        comparison.input(bytes, |comparison, body| questions(comparison, body, &ALL_ROOMS));
     }
 }
 
@@ -52,17 +37,17 @@ fn any_body(random: &mut Random) -> Vec<u8> {
     body
 }
 
-/// Every body is read as a header and as an extension in both places.
-fn questions(comparison: &mut Comparison, body: &[u8]) {
-    let (question, wanted) = (Question::SequenceHeader, AVSPLUS_HEADER_NUMBERS);
-    comparison.numbers(question, &alone, wanted, |decoder, lent| {
+/// Every body is read as a header, and as an extension in both scopes with some rooms.
+fn questions(comparison: &mut Comparison, body: &[u8], extension_rooms: &[usize]) {
+    let wanted = rooms(AVSPLUS_HEADER_NUMBERS);
+    comparison.numbers(Question::SequenceHeader, &alone, &wanted, |decoder, lent| {
         (decoder.sequence_header)(body, lent)
     });
     for in_head in [true, false] {
-        for (question, wanted, of) in EXTENSION_QUESTIONS {
-            let with = || format!("in head {}", in_head);
-            comparison.numbers(question, &with, wanted, |decoder, lent| of(decoder)(body, in_head, lent));
-        }
+        let with = || format!("in head {}", in_head);
+        comparison.numbers(Question::Extension, &with, extension_rooms, |decoder, lent| {
+            (decoder.extension)(body, in_head, lent)
+        });
     }
 }
 
@@ -71,7 +56,9 @@ pub(crate) fn longest(comparison: &mut Comparison, random: &mut Random) {
     for make in [header_body, extension_body] {
         let mut body = make(random);
         body.resize(AVSPLUS_LONGEST_STREAM as usize + 1, 0);
-        comparison.input(body, questions);
+        comparison.input(body, |comparison, body| {
+            questions(comparison, body, &[0, AVSPLUS_EXTENSION_WITH_COLOUR]);
+        });
     }
 }
 
@@ -81,7 +68,7 @@ pub(crate) fn codes(comparison: &mut Comparison) {
         comparison.input(code.to_be_bytes().to_vec(), |comparison, _| {
             for (question, of) in CODE_QUESTIONS {
                 let with = || format!("code {}", code);
-                comparison.numbers(question, &with, AVSPLUS_RATIO_NUMBERS, |decoder, lent| {
+                comparison.numbers(question, &with, &rooms(AVSPLUS_RATIO_NUMBERS), |decoder, lent| {
                     of(decoder)(code, lent)
                 });
             }

@@ -130,10 +130,13 @@ pub(crate) fn lend<T: Pattern>(room: usize, call: impl Fn(&mut [T]) -> Answer) -
     Lent { answer, memory }
 }
 
-/// Exactly enough for `wanted` words, one too few, and some over.
+/// One too few for `wanted` words, exactly enough, and some over.
 pub(crate) fn rooms(wanted: usize) -> [usize; 3] {
-    [wanted, wanted.saturating_sub(1), wanted + 3]
+    [wanted.saturating_sub(1), wanted, wanted + 3]
 }
+
+/// None, and one too few, exactly enough and one too many for each count of numbers that a group or an extension has.
+pub(crate) const ALL_ROOMS: [usize; 19] = [0, 1, 2, 4, 5, 6, 7, 8, 9, 10, 13, 14, 15, 18, 19, 20, 21, 22, 23];
 
 /// What a question comes with beside the input, in words; made only for a difference.
 pub(crate) type With<'a> = &'a dyn Fn() -> String;
@@ -221,22 +224,24 @@ impl<'a> Comparison<'a> {
         expected
     }
 
-    /// Asks for `wanted` numbers with enough, too few and too many lent; answers the status with enough.
+    /// Asks for numbers with each of some rooms lent, the last of them enough; answers the status with that.
     pub fn numbers(
         &mut self,
         question: Question,
         with: With,
-        wanted: usize,
+        rooms: &[usize],
         call: impl Fn(&Decoder, &mut [u64]) -> Answer,
     ) -> u32 {
-        let statuses = rooms(wanted).map(|room| {
+        let statuses = rooms.iter().map(|&room| {
             let with = || format!("{}, {} numbers lent", with(), room);
-            let lent = self.ask(question, &with, |decoder| lend(room, |numbers| call(decoder, numbers)));
-            if lent.answer.status == AVSPLUS_DONE && lent.answer.count == 0 {
-                self.report.not_given(question);
+            let Answer { status, count, .. } = self
+                .ask(question, &with, |decoder| lend(room, |numbers| call(decoder, numbers)))
+                .answer;
+            if status == AVSPLUS_DONE {
+                self.report.handed_over(question, count);
             }
-            lent.answer.status
+            status
         });
-        statuses[0]
+        statuses.last().unwrap_or(AVSPLUS_DONE)
     }
 }

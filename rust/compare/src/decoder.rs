@@ -5,10 +5,6 @@ use avsplus::raw::{
     AVSPLUS_NO_BIN, AVSPLUS_NO_NUMBER, AVSPLUS_NO_SIGNED_NUMBER,
 };
 
-/// Numbers of a stream's group, counted from 0.
-pub type GroupNumbers = fn(&[u8], usize, &mut [u64]) -> Answer;
-/// Numbers of a body, in a group's head or after a picture header.
-pub type BodyNumbers = fn(&[u8], bool, &mut [u64]) -> Answer;
 /// Numbers of a code.
 pub type CodeNumbers = fn(u32, &mut [u64]) -> Answer;
 /// A bin without a context: bytes, bits and state.
@@ -18,17 +14,15 @@ pub type PlainBinOf = fn(&[u8], usize, State) -> PlainBin;
 #[derive(Clone, Copy)]
 pub struct Decoder {
     pub name: &'static str,
+    pub check: fn(&[u8]) -> Answer,
     pub file: fn(&[u8], &mut [u32]) -> Answer,
     pub row_exists: fn(&[u8], &[u32], usize) -> bool,
     pub row_body: fn(&[u8], &[u32], usize) -> Part,
-    pub group_header: GroupNumbers,
-    pub group_display: GroupNumbers,
-    pub group_colour: GroupNumbers,
+    /// Numbers of a stream's group, counted from 0.
+    pub group: fn(&[u8], usize, &mut [u64]) -> Answer,
     pub sequence_header: fn(&[u8], &mut [u64]) -> Answer,
-    pub extension: BodyNumbers,
-    pub display: BodyNumbers,
-    pub display_colour: BodyNumbers,
-    pub copyright: BodyNumbers,
+    /// Numbers of a body, in a group's head or after a picture header.
+    pub extension: fn(&[u8], bool, &mut [u64]) -> Answer,
     pub frame_rate: CodeNumbers,
     pub display_ratio: CodeNumbers,
     pub remove_escapes: fn(&[u8], &mut [u8]) -> Answer,
@@ -48,14 +42,18 @@ pub struct Decoder {
 pub(crate) fn done(count: usize) -> Answer {
     Answer {
         status: AVSPLUS_DONE,
-        place: 0,
+        offset: 0,
         count,
     }
 }
 
 /// A refusal.
-pub(crate) fn refused(status: u32, place: usize) -> Answer {
-    Answer { status, place, count: 0 }
+pub(crate) fn refused(status: u32, offset: usize) -> Answer {
+    Answer {
+        status,
+        offset,
+        count: 0,
+    }
 }
 
 /// Hands words over into lent memory: FULL where fewer are lent; no words stand for something not given.

@@ -6,17 +6,13 @@ use crate::decoder::Decoder;
 
 pub const LIBRARY: Decoder = Decoder {
     name: "library",
+    check,
     file,
     row_exists,
     row_body,
-    group_header,
-    group_display,
-    group_colour,
+    group,
     sequence_header,
     extension,
-    display,
-    display_colour,
-    copyright,
     frame_rate,
     display_ratio,
     remove_escapes,
@@ -52,6 +48,10 @@ fn lent_out<T>(part: &mut [T]) -> *mut T {
 
 // Below, each pointer comes with its slice's own length, and what is written is borrowed alone.
 
+fn check(stream: &[u8]) -> Answer {
+    unsafe { raw::avsplus_check(lent(stream), stream.len()) }
+}
+
 fn file(stream: &[u8], rows: &mut [u32]) -> Answer {
     unsafe { raw::avsplus_file(lent(stream), stream.len(), lent_out(rows), rows.len()) }
 }
@@ -64,16 +64,8 @@ fn row_body(stream: &[u8], rows: &[u32], i: usize) -> Part {
     unsafe { raw::avsplus_row_body(lent(stream), stream.len(), lent(rows), rows.len(), i) }
 }
 
-fn group_header(stream: &[u8], g: usize, numbers: &mut [u64]) -> Answer {
-    unsafe { raw::avsplus_group_header(lent(stream), stream.len(), g, lent_out(numbers), numbers.len()) }
-}
-
-fn group_display(stream: &[u8], g: usize, numbers: &mut [u64]) -> Answer {
-    unsafe { raw::avsplus_group_display(lent(stream), stream.len(), g, lent_out(numbers), numbers.len()) }
-}
-
-fn group_colour(stream: &[u8], g: usize, numbers: &mut [u64]) -> Answer {
-    unsafe { raw::avsplus_group_colour(lent(stream), stream.len(), g, lent_out(numbers), numbers.len()) }
+fn group(stream: &[u8], g: usize, numbers: &mut [u64]) -> Answer {
+    unsafe { raw::avsplus_group(lent(stream), stream.len(), g, lent_out(numbers), numbers.len()) }
 }
 
 fn sequence_header(body: &[u8], numbers: &mut [u64]) -> Answer {
@@ -82,18 +74,6 @@ fn sequence_header(body: &[u8], numbers: &mut [u64]) -> Answer {
 
 fn extension(body: &[u8], in_head: bool, numbers: &mut [u64]) -> Answer {
     unsafe { raw::avsplus_extension(lent(body), body.len(), in_head, lent_out(numbers), numbers.len()) }
-}
-
-fn display(body: &[u8], in_head: bool, numbers: &mut [u64]) -> Answer {
-    unsafe { raw::avsplus_display(lent(body), body.len(), in_head, lent_out(numbers), numbers.len()) }
-}
-
-fn display_colour(body: &[u8], in_head: bool, numbers: &mut [u64]) -> Answer {
-    unsafe { raw::avsplus_display_colour(lent(body), body.len(), in_head, lent_out(numbers), numbers.len()) }
-}
-
-fn copyright(body: &[u8], in_head: bool, numbers: &mut [u64]) -> Answer {
-    unsafe { raw::avsplus_copyright(lent(body), body.len(), in_head, lent_out(numbers), numbers.len()) }
 }
 
 fn frame_rate(code: u32, numbers: &mut [u64]) -> Answer {

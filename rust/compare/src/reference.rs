@@ -5,23 +5,19 @@ use avsplus::raw::{
     AVSPLUS_EXTENSION_UNIT, AVSPLUS_I_PICTURE, AVSPLUS_NO_KIND, AVSPLUS_PB_PICTURE, AVSPLUS_SEQUENCE_END,
     AVSPLUS_SEQUENCE_HEADER, AVSPLUS_SLICE, AVSPLUS_USER_DATA,
 };
-use independent::{Copyright, Display, Extension, Header};
+use independent::{Copyright, Display, Extension, Header, Refused};
 
 use crate::decoder::{self, done, hand_over, refused, Decoder};
 
 pub const REFERENCE: Decoder = Decoder {
     name: "independent",
-    file,
+    check: |stream| units(independent::check(stream)),
+    file: |stream, rows| units(independent::file(stream, rows)),
     row_exists: |stream, rows, i| independent::row_exists(stream, rows, i as u64),
     row_body,
-    group_header: |stream, g, lent| group(stream, g, lent, |header, _| header_numbers(header)),
-    group_display: |stream, g, lent| group(stream, g, lent, |_, display| display.map_or(vec![], display_numbers)),
-    group_colour: |stream, g, lent| group(stream, g, lent, |_, display| display.map_or(vec![], colour_numbers)),
+    group,
     sequence_header,
-    extension: |body, in_head, lent| extension(body, in_head, lent, number),
-    display: |body, in_head, lent| extension(body, in_head, lent, |extension| of_display(extension, display_numbers)),
-    display_colour: |body, in_head, lent| extension(body, in_head, lent, |extension| of_display(extension, colour_numbers)),
-    copyright: |body, in_head, lent| extension(body, in_head, lent, of_copyright),
+    extension,
     frame_rate: |code, lent| ratio(independent::frame_rate(code), lent),
     display_ratio: |aspect, lent| ratio(independent::display_ratio(aspect), lent),
     remove_escapes,
@@ -37,8 +33,9 @@ pub const REFERENCE: Decoder = Decoder {
     kind,
 };
 
-fn file(stream: &[u8], rows: &mut [u32]) -> Answer {
-    match independent::file(stream, rows) {
+/// The answer for a stream with so many units, or its refusal.
+fn units(checked: Result<u64, Refused>) -> Answer {
+    match checked {
         Ok(units) => done(units as usize),
         Err(refusal) => refused(refusal.number, refusal.place as usize),
     }
@@ -49,9 +46,13 @@ fn row_body(stream: &[u8], rows: &[u32], i: usize) -> Part {
     Part { offset, length }
 }
 
-fn group(stream: &[u8], g: usize, lent: &mut [u64], numbers: fn(&Header, Option<&Display>) -> Vec<u64>) -> Answer {
+/// The header's numbers, then those of the display extension where it is given.
+fn group(stream: &[u8], g: usize, lent: &mut [u64]) -> Answer {
     match independent::group(stream, g as u64) {
-        Ok((header, display)) => hand_over(&numbers(&header, display.as_ref()), lent),
+        Ok((header, display)) => {
+            let display = display.map_or(vec![], |display| display_numbers(&display));
+            hand_over(&[header_numbers(&header), display].concat(), lent)
+        }
         Err(refusal) => refused(refusal.number, refusal.place as usize),
     }
 }
@@ -79,13 +80,11 @@ fn header_numbers(header: &Header) -> Vec<u64> {
     ])
 }
 
+/// Three more where the colour is given.
 fn display_numbers(display: &Display) -> Vec<u64> {
-    wide(&[display.format, display.range, display.width, display.height, display.stereo])
-}
-
-/// None where the colour is not given.
-fn colour_numbers(display: &Display) -> Vec<u64> {
-    display.colour.map_or(vec![], |colour| wide(&colour))
+    let mut numbers = vec![display.format, display.range, display.width, display.height, display.stereo];
+    numbers.extend(display.colour.into_iter().flatten());
+    wide(&numbers)
 }
 
 fn sequence_header(body: &[u8], lent: &mut [u64]) -> Answer {
@@ -95,37 +94,24 @@ fn sequence_header(body: &[u8], lent: &mut [u64]) -> Answer {
     }
 }
 
-fn extension(body: &[u8], in_head: bool, lent: &mut [u64], numbers: fn(&Extension) -> Vec<u64>) -> Answer {
+fn extension(body: &[u8], in_head: bool, lent: &mut [u64]) -> Answer {
     match independent::extension(body, in_head) {
-        Ok(extension) => hand_over(&numbers(&extension), lent),
+        Ok(extension) => hand_over(&extension_numbers(&extension), lent),
         Err(status) => refused(status, 0),
     }
 }
 
-fn number(extension: &Extension) -> Vec<u64> {
-    match extension {
-        Extension::Display(_) => vec![2],
-        Extension::Copyright(_) => vec![4],
-        Extension::Opaque(number) => wide(&[*number]),
-    }
-}
-
-fn of_display(extension: &Extension, numbers: fn(&Display) -> Vec<u64>) -> Vec<u64> {
-    match extension {
-        Extension::Display(display) => numbers(display),
-        _ => vec![],
-    }
-}
-
-fn of_copyright(extension: &Extension) -> Vec<u64> {
+/// The extension's own number, 2 for a display and 4 for a copyright extension, then what it says.
+fn extension_numbers(extension: &Extension) -> Vec<u64> {
     match *extension {
+        Extension::Display(display) => [vec![2], display_numbers(&display)].concat(),
         Extension::Copyright(Copyright {
             flag,
             owner,
             original,
             number,
-        }) => vec![flag.into(), owner.into(), original.into(), number],
-        _ => vec![],
+        }) => vec![4, flag.into(), owner.into(), original.into(), number],
+        Extension::Opaque(number) => wide(&[number]),
     }
 }
 

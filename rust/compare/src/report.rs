@@ -1,5 +1,6 @@
 //! What a comparison has found: the answers met, the inputs compared, the differences.
 
+use std::collections::BTreeMap;
 use std::fmt;
 
 use independent::NAMES;
@@ -7,24 +8,20 @@ use independent::NAMES;
 /// Differences that are kept in full.
 const KEPT: usize = 10;
 /// Questions side by side in the table.
-const COLUMNS: usize = 6;
+const COLUMNS: usize = 5;
 const ANSWERS: usize = NAMES.len();
 
 /// What is asked.
 #[derive(Clone, Copy)]
 pub(crate) enum Question {
+    Check,
     File,
     Row,
-    GroupHeader,
-    GroupDisplay,
-    GroupColour,
+    Group,
     NextStartCode,
     Kind,
     SequenceHeader,
     Extension,
-    Display,
-    DisplayColour,
-    Copyright,
     FrameRate,
     DisplayRatio,
     RemoveEscapes,
@@ -38,19 +35,15 @@ pub(crate) enum Question {
     Stuffing,
 }
 
-const QUESTIONS: [&str; 23] = [
+const QUESTIONS: [&str; 19] = [
+    "check",
     "file",
     "row",
-    "group header",
-    "group display",
-    "group colour",
+    "group",
     "next start code",
     "kind",
     "sequence header",
     "extension",
-    "display",
-    "display colour",
-    "copyright",
     "frame rate",
     "display ratio",
     "remove escapes",
@@ -90,7 +83,8 @@ pub struct Report {
     pub inputs: u64,
     pub differences: u64,
     met: [[u64; ANSWERS]; QUESTIONS.len()],
-    not_given: [u64; QUESTIONS.len()],
+    /// How often so many numbers were handed over, by question and count.
+    handed_over: BTreeMap<(usize, usize), u64>,
     kept: Vec<Kept>,
 }
 
@@ -100,7 +94,7 @@ impl Report {
             inputs: 0,
             differences: 0,
             met: [[0; ANSWERS]; QUESTIONS.len()],
-            not_given: [0; QUESTIONS.len()],
+            handed_over: BTreeMap::new(),
             kept: Vec::new(),
         }
     }
@@ -110,9 +104,15 @@ impl Report {
         self.met[question as usize][status as usize] += 1;
     }
 
-    /// Counts an answer that hands nothing over, which is one of those done.
-    pub(crate) fn not_given(&mut self, question: Question) {
-        self.not_given[question as usize] += 1;
+    /// Counts an answer that hands so many numbers over.
+    pub(crate) fn handed_over(&mut self, question: Question, count: usize) {
+        *self.handed_over.entry((question as usize, count)).or_insert(0) += 1;
+    }
+
+    /// How many numbers a question was answered with, each count once.
+    pub fn counts(&self, question: &str) -> Vec<usize> {
+        let counts = self.handed_over.keys().filter(|(q, _)| QUESTIONS[*q] == question);
+        counts.map(|&(_, count)| count).collect()
     }
 
     /// How often an answer was met by all questions together.
@@ -156,9 +156,6 @@ fn table(f: &mut fmt::Formatter, report: &Report, questions: &[usize]) -> fmt::R
     for (number, name) in NAMES.iter().enumerate() {
         let name = if number == 0 { "done" } else { name };
         line(f, format!("{:2} {}", number, name), &|q| shown(report.met[q][number]))?;
-        if number == 0 {
-            line(f, "   (not given)".to_string(), &|q| shown(report.not_given[q]))?;
-        }
     }
     writeln!(f)
 }
@@ -167,6 +164,10 @@ impl fmt::Display for Report {
     fn fmt(&self, f: &mut fmt::Formatter) -> fmt::Result {
         let questions: Vec<usize> = (0..QUESTIONS.len()).collect();
         questions.chunks(COLUMNS).try_for_each(|some| table(f, self, some))?;
+        for (&(q, count), times) in &self.handed_over {
+            writeln!(f, "{:<16} {:>2} numbers handed over {:>8} times", QUESTIONS[q], count, times)?;
+        }
+        writeln!(f)?;
         for kept in &self.kept {
             writeln!(f, "difference: {}\n  input, {}", kept.difference.what, kept.input)?;
             for (who, answer) in &kept.difference.sides {

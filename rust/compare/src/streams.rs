@@ -1,12 +1,9 @@
 //! Whole streams: filing, rows and groups.
 
-use avsplus::raw::{
-    AVSPLUS_COLOUR_NUMBERS, AVSPLUS_DISPLAY_NUMBERS, AVSPLUS_DONE, AVSPLUS_HEADER_NUMBERS, AVSPLUS_LONGEST_STREAM,
-    AVSPLUS_ROW_WORDS,
-};
+use avsplus::raw::{AVSPLUS_DONE, AVSPLUS_GROUP_PLAIN, AVSPLUS_GROUP_WITH_COLOUR, AVSPLUS_LONGEST_STREAM, AVSPLUS_ROW_WORDS};
 use independent::generate::{damaged, stream, Random};
 
-use crate::comparison::{lend, Comparison};
+use crate::comparison::{alone, lend, rooms, Comparison, ALL_ROOMS};
 use crate::inputs::pick;
 use crate::report::Question;
 
@@ -74,8 +71,9 @@ fn file(comparison: &mut Comparison, stream: &[u8], room: usize) -> Vec<u32> {
     filed.words().to_vec()
 }
 
-/// Files with none, too few, too many and exactly enough words; answers these last, pattern and all.
+/// Checks, and files with none, too few, too many and exactly enough words; answers these last, pattern and all.
 fn filing(comparison: &mut Comparison, stream: &[u8]) -> Vec<u32> {
+    check(comparison, stream);
     let wanted = AVSPLUS_ROW_WORDS * start_codes(stream);
     for room in [0, wanted.saturating_sub(1), wanted + AVSPLUS_ROW_WORDS] {
         file(comparison, stream, room);
@@ -123,28 +121,23 @@ fn change(random: &mut Random, rows: &mut [u32], length: u32) {
 /// Asks for all groups, two past the last, and one far off.
 fn groups(comparison: &mut Comparison, stream: &[u8]) {
     let mut g = 0;
-    while group(comparison, stream, g) == AVSPLUS_DONE {
+    while group(comparison, stream, g, &ALL_ROOMS) == AVSPLUS_DONE {
         g += 1;
     }
-    group(comparison, stream, g + 1);
-    group(comparison, stream, usize::MAX);
+    for past in [g + 1, usize::MAX] {
+        group(comparison, stream, past, &[0, AVSPLUS_GROUP_WITH_COLOUR]);
+    }
 }
 
-/// Answers the status of the group's header.
-fn group(comparison: &mut Comparison, stream: &[u8], g: usize) -> u32 {
+fn group(comparison: &mut Comparison, stream: &[u8], g: usize, rooms: &[usize]) -> u32 {
     let with = || format!("group {}", g);
-    let wanted = AVSPLUS_DISPLAY_NUMBERS;
-    comparison.numbers(Question::GroupDisplay, &with, wanted, |decoder, lent| {
-        (decoder.group_display)(stream, g, lent)
-    });
-    let wanted = AVSPLUS_COLOUR_NUMBERS;
-    comparison.numbers(Question::GroupColour, &with, wanted, |decoder, lent| {
-        (decoder.group_colour)(stream, g, lent)
-    });
-    let wanted = AVSPLUS_HEADER_NUMBERS;
-    comparison.numbers(Question::GroupHeader, &with, wanted, |decoder, lent| {
-        (decoder.group_header)(stream, g, lent)
+    comparison.numbers(Question::Group, &with, rooms, |decoder, lent| {
+        (decoder.group)(stream, g, lent)
     })
+}
+
+fn check(comparison: &mut Comparison, stream: &[u8]) {
+    comparison.ask(Question::Check, &alone, |decoder| (decoder.check)(stream));
 }
 
 /// A good stream of so many bytes: most are one slice, or user data before it.
@@ -169,7 +162,7 @@ pub(crate) fn longest(comparison: &mut Comparison, random: &mut Random) {
             comparison.input(bytes, |comparison, stream| {
                 let rows = filing(comparison, stream);
                 all_rows(comparison, stream, &rows);
-                group(comparison, stream, 0);
+                group(comparison, stream, 0, &rooms(AVSPLUS_GROUP_PLAIN));
             });
         }
     }
@@ -179,8 +172,9 @@ pub(crate) fn longest(comparison: &mut Comparison, random: &mut Random) {
 pub(crate) fn too_long(comparison: &mut Comparison, random: &mut Random) {
     for bytes in [long_stream(random, LONGEST + 1, false), vec![0; LONGEST + 2]] {
         comparison.input(bytes, |comparison, stream| {
+            check(comparison, stream);
             file(comparison, stream, 12);
-            group(comparison, stream, 0);
+            group(comparison, stream, 0, &ALL_ROOMS);
         });
     }
 }

@@ -5,24 +5,20 @@ use avsplus::raw::{
     AVSPLUS_EXTENSION_UNIT, AVSPLUS_I_PICTURE, AVSPLUS_NO_KIND, AVSPLUS_PB_PICTURE, AVSPLUS_SEQUENCE_END,
     AVSPLUS_SEQUENCE_HEADER, AVSPLUS_SLICE, AVSPLUS_USER_DATA,
 };
-use avsplus::{DisplayExtension, Extension, Group, Kind, Place, Ratio, Reason, Refused, SequenceHeader, Unit};
+use avsplus::{DisplayExtension, Extension, Group, Kind, Ratio, Reason, Refused, Scope, SequenceHeader, Unit};
 
 use crate::decoder::{self, done, hand_over, refused, Decoder};
 
 /// The functions that lend memory on, one for each of the library's.
 pub const WRAPPED: Decoder = Decoder {
     name: "safe crate",
+    check: |stream| avsplus::check(stream).map_or_else(stream_refused, done),
     file,
     row_exists: avsplus::row_exists,
     row_body,
-    group_header: |stream, g, lent| group(avsplus::group(stream, g), lent, group_header),
-    group_display: |stream, g, lent| group(avsplus::group(stream, g), lent, group_display),
-    group_colour: |stream, g, lent| group(avsplus::group(stream, g), lent, group_colour),
+    group: |stream, g, lent| group(avsplus::group(stream, g), lent),
     sequence_header,
-    extension: |body, in_head, lent| extension(body, in_head, lent, number),
-    display: |body, in_head, lent| extension(body, in_head, lent, |extension| of_display(extension, display_numbers)),
-    display_colour: |body, in_head, lent| extension(body, in_head, lent, |extension| of_display(extension, colour_numbers)),
-    copyright: |body, in_head, lent| extension(body, in_head, lent, of_copyright),
+    extension,
     frame_rate: |code, lent| ratio(avsplus::frame_rate(code), lent),
     display_ratio: |aspect, lent| ratio(avsplus::display_ratio(aspect), lent),
     remove_escapes,
@@ -38,18 +34,21 @@ pub const WRAPPED: Decoder = Decoder {
     kind,
 };
 
-/// The same with rows and groups taken from a filed recording and its units.
+/// The same with rows and groups taken from a filed recording and its units: groups by number where an odd room is lent, else
+/// among all groups.
 pub const RECORDING: Decoder = Decoder {
     name: "safe crate's recording",
+    check: |stream| avsplus::file(stream).map_or_else(stream_refused, |recording| done(recording.unit_count())),
     file: recording_rows,
-    group_header: |stream, g, lent| group(recording_groups(stream, g), lent, group_header),
-    group_display: |stream, g, lent| group(recording_group(stream, g), lent, group_display),
-    group_colour: |stream, g, lent| group(recording_group(stream, g), lent, group_colour),
+    group: |stream, g, lent| match lent.len() % 2 {
+        0 => group(recording_groups(stream, g), lent),
+        _ => group(recording_group(stream, g), lent),
+    },
     ..WRAPPED
 };
 
 fn stream_refused(refusal: Refused) -> Answer {
-    refused(refusal.reason.number(), refusal.place)
+    refused(refusal.reason.number(), refusal.offset)
 }
 
 fn file(stream: &[u8], rows: &mut [u32]) -> Answer {
@@ -92,7 +91,7 @@ fn recording_rows(stream: &[u8], lent: &mut [u32]) -> Answer {
 
 const NO_GROUP: Refused = Refused {
     reason: Reason::NoRow,
-    place: 0,
+    offset: 0,
 };
 
 /// A group asked for by its number.
@@ -107,23 +106,17 @@ fn recording_groups(stream: &[u8], g: usize) -> Result<Group, Refused> {
     group.ok_or(NO_GROUP)
 }
 
-fn group(group: Result<Group, Refused>, lent: &mut [u64], numbers: fn(&Group) -> Vec<u64>) -> Answer {
+fn group(group: Result<Group, Refused>, lent: &mut [u64]) -> Answer {
     match group {
-        Ok(group) => hand_over(&numbers(&group), lent),
+        Ok(group) => hand_over(&group_numbers(&group), lent),
         Err(refusal) => stream_refused(refusal),
     }
 }
 
-fn group_header(group: &Group) -> Vec<u64> {
-    header_numbers(&group.header)
-}
-
-fn group_display(group: &Group) -> Vec<u64> {
-    group.display.as_ref().map_or(vec![], display_numbers)
-}
-
-fn group_colour(group: &Group) -> Vec<u64> {
-    group.display.as_ref().map_or(vec![], colour_numbers)
+fn group_numbers(group: &Group) -> Vec<u64> {
+    let mut numbers = header_numbers(&group.header);
+    numbers.extend(group.display.iter().flat_map(display_numbers));
+    numbers
 }
 
 fn header_numbers(header: &SequenceHeader) -> Vec<u64> {
@@ -146,19 +139,17 @@ fn header_numbers(header: &SequenceHeader) -> Vec<u64> {
 }
 
 fn display_numbers(display: &DisplayExtension) -> Vec<u64> {
-    vec![
+    let mut numbers: Vec<u64> = vec![
         display.format.into(),
         display.range.into(),
         display.width.into(),
         display.height.into(),
         display.stereo.into(),
-    ]
-}
-
-fn colour_numbers(display: &DisplayExtension) -> Vec<u64> {
-    display.colour.map_or(vec![], |colour| {
-        vec![colour.primaries.into(), colour.transfer.into(), colour.matrix.into()]
-    })
+    ];
+    if let Some(colour) = display.colour {
+        numbers.extend([colour.primaries, colour.transfer, colour.matrix].map(u64::from));
+    }
+    numbers
 }
 
 fn sequence_header(body: &[u8], lent: &mut [u64]) -> Answer {
@@ -168,33 +159,19 @@ fn sequence_header(body: &[u8], lent: &mut [u64]) -> Answer {
     }
 }
 
-fn extension(body: &[u8], in_head: bool, lent: &mut [u64], numbers: fn(&Extension) -> Vec<u64>) -> Answer {
-    let place = if in_head { Place::Head } else { Place::Picture };
-    match avsplus::extension(body, place) {
-        Ok(extension) => hand_over(&numbers(&extension), lent),
+fn extension(body: &[u8], in_head: bool, lent: &mut [u64]) -> Answer {
+    let scope = if in_head { Scope::Head } else { Scope::Picture };
+    match avsplus::extension(body, scope) {
+        Ok(extension) => hand_over(&extension_numbers(&extension), lent),
         Err(reason) => refused(reason.number(), 0),
     }
 }
 
-fn number(extension: &Extension) -> Vec<u64> {
+fn extension_numbers(extension: &Extension) -> Vec<u64> {
     match *extension {
-        Extension::Display(_) => vec![2],
-        Extension::Copyright(_) => vec![4],
+        Extension::Display(ref display) => [vec![2], display_numbers(display)].concat(),
+        Extension::Copyright(c) => vec![4, c.flag.into(), c.owner.into(), c.original.into(), c.number],
         Extension::Opaque(number) => vec![number.into()],
-    }
-}
-
-fn of_display(extension: &Extension, numbers: fn(&DisplayExtension) -> Vec<u64>) -> Vec<u64> {
-    match extension {
-        Extension::Display(display) => numbers(display),
-        _ => vec![],
-    }
-}
-
-fn of_copyright(extension: &Extension) -> Vec<u64> {
-    match *extension {
-        Extension::Copyright(c) => vec![c.flag.into(), c.owner.into(), c.original.into(), c.number],
-        _ => vec![],
     }
 }
 

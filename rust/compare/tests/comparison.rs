@@ -32,6 +32,8 @@ fn a_decoder_agrees_with_itself_and_all_answers_are_met() {
     assert_eq!(report.differences, 0, "{}", report);
     let missed: Vec<u32> = (0..=16).filter(|&status| report.times(status) == 0).collect();
     assert!(missed.is_empty(), "{:?}\n{}", missed, report);
+    assert_eq!(report.counts("group"), [14, 19, 22]);
+    assert_eq!(report.counts("extension"), [1, 5, 6, 9]);
 }
 
 /// The first word of the last row is another.
@@ -71,10 +73,10 @@ fn other_refusal(stream: &[u8], rows: &mut [u32]) -> Answer {
 }
 
 /// UNENDED one byte too early.
-fn other_place(stream: &[u8], rows: &mut [u32]) -> Answer {
+fn other_offset(stream: &[u8], rows: &mut [u32]) -> Answer {
     let answer = (LIBRARY.file)(stream, rows);
-    let place = answer.place - usize::from(answer.status == 11);
-    Answer { place, ..answer }
+    let offset = answer.offset - usize::from(answer.status == 11);
+    Answer { offset, ..answer }
 }
 
 /// A body that ends exactly at the stream's end is no row.
@@ -90,14 +92,48 @@ fn body_with_code(stream: &[u8], rows: &[u32], i: usize) -> Part {
     Part { offset, ..part }
 }
 
-/// Not given becomes given with zeros.
+/// A colour that is not given becomes given with zeros.
 fn colour_of_zeros(stream: &[u8], g: usize, numbers: &mut [u64]) -> Answer {
-    let answer = (LIBRARY.group_colour)(stream, g, numbers);
-    if answer.status == 0 && answer.count == 0 && numbers.len() == 3 {
-        numbers.fill(0);
-        return Answer { count: 3, ..answer };
+    let answer = (LIBRARY.group)(stream, g, numbers);
+    if answer.count == 19 && numbers.len() >= 22 {
+        numbers[19..22].fill(0);
+        return Answer { count: 22, ..answer };
     }
     answer
+}
+
+/// FULL for a group where there is no room for what it has not.
+fn group_wants_room_for_all(stream: &[u8], g: usize, numbers: &mut [u64]) -> Answer {
+    let mut all = [0; 22];
+    let answer = (LIBRARY.group)(stream, g, &mut all);
+    if answer.status == 0 && numbers.len() < 22 {
+        return (LIBRARY.group)(stream, g, &mut []);
+    }
+    (LIBRARY.group)(stream, g, numbers)
+}
+
+/// As many numbers as there is room for, where there is too little.
+fn extension_writes_some(body: &[u8], in_head: bool, numbers: &mut [u64]) -> Answer {
+    let mut all = [0; 9];
+    let given = (LIBRARY.extension)(body, in_head, &mut all).count;
+    if numbers.len() < given {
+        numbers.copy_from_slice(&all[..numbers.len()]);
+    }
+    (LIBRARY.extension)(body, in_head, numbers)
+}
+
+/// What is not given is written as zeros, though it is not counted.
+fn extension_fills(body: &[u8], in_head: bool, numbers: &mut [u64]) -> Answer {
+    let answer = (LIBRARY.extension)(body, in_head, numbers);
+    if answer.status == 0 && numbers.len() >= 9 {
+        numbers[answer.count..9].fill(0);
+    }
+    answer
+}
+
+/// A stream is checked as if its units were rows to be written.
+fn check_that_is_full(stream: &[u8]) -> Answer {
+    (LIBRARY.file)(stream, &mut [0; 60])
 }
 
 /// The bits after the last are ones.
@@ -157,21 +193,18 @@ fn last_number(answer: Answer, numbers: &mut [u64]) -> Answer {
 type Slip = (&'static str, fn(&mut Decoder));
 
 /// At least one for every question.
-const SLIPS: [Slip; 28] = [
+const SLIPS: [Slip; 29] = [
+    ("check that is full", |d| d.check = check_that_is_full),
     ("last row", |d| d.file = last_row),
     ("word after the rows", |d| d.file = word_after_rows),
     ("refusal that writes", |d| d.file = refusal_writes),
     ("other refusal", |d| d.file = other_refusal),
-    ("other place", |d| d.file = other_place),
+    ("other offset", |d| d.file = other_offset),
     ("row before the end", |d| d.row_exists = row_before_end),
     ("body with its code", |d| d.row_body = body_with_code),
-    ("group header", |d| {
-        d.group_header = |s, g, n| last_number((LIBRARY.group_header)(s, g, n), n)
-    }),
-    ("group display", |d| {
-        d.group_display = |s, g, n| last_number((LIBRARY.group_display)(s, g, n), n)
-    }),
-    ("colour of zeros", |d| d.group_colour = colour_of_zeros),
+    ("group", |d| d.group = |s, g, n| last_number((LIBRARY.group)(s, g, n), n)),
+    ("colour of zeros", |d| d.group = colour_of_zeros),
+    ("room for what a group has not", |d| d.group = group_wants_room_for_all),
     ("header", |d| {
         d.sequence_header = |b, n| last_number((LIBRARY.sequence_header)(b, n), n)
     }),
@@ -179,14 +212,10 @@ const SLIPS: [Slip; 28] = [
         d.extension = |b, h, n| last_number((LIBRARY.extension)(b, h, n), n)
     }),
     ("display after a picture", |d| {
-        d.display = |b, _, n| (LIBRARY.display)(b, true, n)
+        d.extension = |b, _, n| (LIBRARY.extension)(b, true, n)
     }),
-    ("colour after a picture", |d| {
-        d.display_colour = |b, _, n| (LIBRARY.display_colour)(b, true, n)
-    }),
-    ("copyright", |d| {
-        d.copyright = |b, h, n| last_number((LIBRARY.copyright)(b, h, n), n)
-    }),
+    ("some of an extension", |d| d.extension = extension_writes_some),
+    ("zeros for what an extension has not", |d| d.extension = extension_fills),
     ("frame rate", |d| d.frame_rate = |c, n| (LIBRARY.frame_rate)(c.min(8), n)),
     ("display ratio", |d| {
         d.display_ratio = |a, n| (LIBRARY.display_ratio)(a & 0xFF, n)

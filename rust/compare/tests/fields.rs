@@ -1,7 +1,7 @@
 //! The tables of field places, which the sheet prints, against what the library read there.
 
 use avsplus::fields::{find, Field, COPYRIGHT, DISPLAY, DISPLAY_WITH_COLOUR, SEQUENCE_HEADER};
-use avsplus::{extension, sequence_header, Extension, Place};
+use avsplus::{extension, sequence_header, Extension, Scope};
 use independent::generate::{extension_body, header_body, Random};
 
 const BODIES: usize = 5000;
@@ -95,7 +95,7 @@ fn extension_fields_lie_where_the_tables_say() {
     let mut good = 0;
     for _ in 0..BODIES {
         let body = extension_body(&mut random);
-        if let Ok(read) = extension(&body, Place::Head) {
+        if let Ok(read) = extension(&body, Scope::Head) {
             for (placed, value) in pairs(read, &body) {
                 assert_eq!(placed, value, "{:?} of {:02X?}", read, body);
             }

@@ -166,6 +166,11 @@ fn walk(stream: &[u8]) -> Result<Walk, Refused> {
     Ok(walk)
 }
 
+/// Checks a stream, whatever rows there are for it; answers the number of units.
+pub fn check(stream: &[u8]) -> Result<u64, Refused> {
+    Ok(walk(stream)?.rows.len() as u64)
+}
+
 /// Files a stream: three words a unit on success, nothing otherwise; answers the number of units.
 pub fn file(stream: &[u8], rows: &mut [u32]) -> Result<u64, Refused> {
     let walk = walk(stream)?;

@@ -49,6 +49,16 @@ fn examples_2_to_5() {
 }
 
 #[test]
+fn examples_without_rows() {
+    let stream = recording(&H, 0);
+    assert_eq!(check(&stream), Ok(4));
+    assert_eq!(check(&stream[..29]), refused(11, 29));
+    assert_eq!(check(&stream[..stream.len() - 1]), refused(2, 29));
+    assert_eq!(check(&[]), refused(1, 0));
+    assert_eq!(check(&recording(&H, 0x44)), refused(8, 24));
+}
+
+#[test]
 fn example_6() {
     let mut body = H;
     body[14] = 0;

@@ -1,6 +1,6 @@
 -- Each arm is one fault.
 use borrow.Author.Needs.{needs}
-use Rattle.layout.specs.Answers.{faultNumber}
+use Rattle.bodies.specs.Answers.{faultNumber}
 use Rattle.filing.proofs.body_reason.Statement.{statement}
 use Rattle.filing.proofs.body_reason.Tie as tie
 

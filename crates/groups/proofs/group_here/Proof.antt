@@ -2,10 +2,10 @@
 use mathlib.Core.Path.{_≡_, sym, ap, _∙_}
 use borrow.Author.Needs.{needs}
 use Rattle.answers.specs.Answers.{Outcome, done}
-use Rattle.layout.specs.Answers.{headerSays}
-use Rattle.layout.specs.Reader.{headerOf}
-use Rattle.layout.specs.declared.HeaderAnswer.{HeaderAnswer}
-use Rattle.layout.specs.declared.SequenceHeader.{SequenceHeader}
+use Rattle.bodies.specs.Answers.{headerSays}
+use Rattle.bodies.specs.Reader.{headerOf}
+use Rattle.bodies.specs.declared.HeaderAnswer.{HeaderAnswer}
+use Rattle.bodies.specs.declared.SequenceHeader.{SequenceHeader}
 use Rattle.groups.specs.Reader.{groupOf}
 use Rattle.groups.specs.declared.Display.{Display}
 use Rattle.groups.proofs.group_here.Statement.{statement}

@@ -2,10 +2,10 @@
 use mathlib.Core.Path.{_≡_, sym, ap, _∙_}
 use borrow.Author.Needs.{needs}
 use Rattle.answers.specs.Answers.{Outcome}
-use Rattle.layout.specs.Answers.{Extension, extensionSays}
-use Rattle.layout.specs.Reader.{extensionOf}
-use Rattle.layout.specs.declared.ExtensionAnswer.{ExtensionAnswer}
-use Rattle.layout.specs.declared.Place.the-variants.{Head}
+use Rattle.bodies.specs.Answers.{Extension, extensionSays}
+use Rattle.bodies.specs.Reader.{extensionOf}
+use Rattle.bodies.specs.declared.ExtensionAnswer.{ExtensionAnswer}
+use Rattle.bodies.specs.declared.Scope.the-variants.{Head}
 use Rattle.groups.specs.Reader.{shown}
 use Rattle.groups.specs.declared.Display.{Display}
 use Rattle.groups.proofs.head_extension.Statement.{statement}

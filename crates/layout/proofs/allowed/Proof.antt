@@ -9,8 +9,8 @@ use borrow.Author.Needs.{needs}
 use Rattle.layout.proofs.allowed.Statement.{statement}
 use Rattle.layout.proofs.allowed.Tie as tie
 
-told : (rule other : Values) (v : ℕ) → rule ≡ other → allows other v ≡ allows rule v
-told rule other v e = sym (ap (λ (r : Values). allows r v) e)
+allows-same : (rule other : Values) (v : ℕ) → rule ≡ other → allows other v ≡ allows rule v
+allows-same rule other v e = sym (ap (λ (r : Values). allows r v) e)
 
 enum-told : tie.Need-enum-told
 enum-told c = search needs
@@ -38,37 +38,37 @@ within-requires-2 c κs = search needs
 
 returns : tie.Need-returns
 unfolding allows
-returns c = told _ _ (c .before .before .args .v) (c .enum-told .given .1)
+returns c = allows-same _ _ (c .before .before .args .v) (c .enum-told .given .1)
 
 returns-2 : tie.Need-returns-2
 unfolding allows
-returns-2 c = told _ _ (c .before .before .args .v) (c .enum-told2 .given .1)
+returns-2 c = allows-same _ _ (c .before .before .args .v) (c .enum-told2 .given .1)
 
 returns-3 : tie.Need-returns-3
 unfolding allows
-returns-3 c = told _ _ (c .before .before .before .args .v) (c .before .values .given .1)
+returns-3 c = allows-same _ _ (c .before .before .before .args .v) (c .before .values .given .1)
 
 returns-4 : tie.Need-returns-4
 unfolding allows
-returns-4 c = told _ _ (c .before .before .before .args .v) (c .before .values2 .given .1)
+returns-4 c = allows-same _ _ (c .before .before .before .args .v) (c .before .values2 .given .1)
 
 returns-5 : tie.Need-returns-5
 unfolding allows
-returns-5 c = c .within .ensures ∙ told _ _ (c .before .before .before .before .args .v) (c .before .before .values3 .given .1)
+returns-5 c = c .within .ensures ∙ allows-same _ _ (c .before .before .before .before .args .v) (c .before .before .values3 .given .1)
 
 returns-6 : tie.Need-returns-6
 unfolding allows
 returns-6 c =
     let v = c .before .before .before .before .before .args .v in
     let g = c .before .before .before .values4 .given in
-    ap (λ (t : Bool). t && not (eqb v (g .0 .1 .1 .0))) (sym (c .if1 .taken) ∙ c .before .within2 .ensures) ∙ told _ _ v (g .1)
+    ap (λ (t : Bool). t && not (eqb v (g .0 .1 .1 .0))) (sym (c .if1 .taken) ∙ c .before .within2 .ensures) ∙ allows-same _ _ v (g .1)
 
 returns-7 : tie.Need-returns-7
 unfolding allows
 returns-7 c =
     let v = c .before .before .before .before .before .args .v in
     let g = c .before .before .before .values4 .given in
-    c .if1 .left ∙ ap (λ (t : Bool). t && not (eqb v (g .0 .1 .1 .0))) (sym (c .if1 .left) ∙ c .before .within2 .ensures) ∙ told _ _ v (g .1)
+    c .if1 .left ∙ ap (λ (t : Bool). t && not (eqb v (g .0 .1 .1 .0))) (sym (c .if1 .left) ∙ c .before .within2 .ensures) ∙ allows-same _ _ v (g .1)
 
 pub allowed-spec : {M : Type 1} → statement M
 allowed-spec =

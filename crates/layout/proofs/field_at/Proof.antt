@@ -11,9 +11,9 @@ use borrow.Author.Needs.{needs}
 use Rattle.layout.proofs.field_at.Statement.{statement}
 use Rattle.layout.proofs.field_at.Tie as tie
 
--- the index is below the count of the layout that was told
-told : (layout other : Layout) (i : ℕ) → layout ≡ other → i < length (fields layout) → i < length (fields other)
-told layout other i e h = subst (λ (l : Layout). i < length (fields l)) e h
+-- the index is below the count of the layout of the arm
+index-below : (layout other : Layout) (i : ℕ) → layout ≡ other → i < length (fields layout) → i < length (fields other)
+index-below layout other i e h = subst (λ (l : Layout). i < length (fields l)) e h
 
 found : (layout other : Layout) (i : ℕ) (f : Field) → layout ≡ other → drop i (fields other) ≡ f ∷ drop (i + 1) (fields other) →
     drop i (fields layout) ≡ f ∷ drop (i + 1) (fields layout)
@@ -24,28 +24,28 @@ enum-told c = search needs
 
 header-field-requires : tie.Need-header-field-requires
 unfolding fields
-header-field-requires c κs = let a = c .before .before .args in told (a .layout) Header (a .i) (c .enum-told .given .1) (c .before .before .pre)
+header-field-requires c κs = let a = c .before .before .args in index-below (a .layout) Header (a .i) (c .enum-told .given .1) (c .before .before .pre)
 
 enum-told-2 : tie.Need-enum-told-2
 enum-told-2 c = search needs
 
 display-field-requires : tie.Need-display-field-requires
 unfolding fields
-display-field-requires c κs = let a = c .before .before .args in told (a .layout) Display (a .i) (c .enum-told2 .given .1) (c .before .before .pre)
+display-field-requires c κs = let a = c .before .before .args in index-below (a .layout) Display (a .i) (c .enum-told2 .given .1) (c .before .before .pre)
 
 enum-told-3 : tie.Need-enum-told-3
 enum-told-3 c = search needs
 
 coloured-field-requires : tie.Need-coloured-field-requires
 unfolding fields
-coloured-field-requires c κs = let a = c .before .before .args in told (a .layout) Coloured (a .i) (c .enum-told3 .given .1) (c .before .before .pre)
+coloured-field-requires c κs = let a = c .before .before .args in index-below (a .layout) Coloured (a .i) (c .enum-told3 .given .1) (c .before .before .pre)
 
 enum-told-4 : tie.Need-enum-told-4
 enum-told-4 c = search needs
 
 copyright-field-requires : tie.Need-copyright-field-requires
 unfolding fields
-copyright-field-requires c κs = let a = c .before .before .args in told (a .layout) Copyright (a .i) (c .enum-told4 .given .1) (c .before .before .pre)
+copyright-field-requires c κs = let a = c .before .before .args in index-below (a .layout) Copyright (a .i) (c .enum-told4 .given .1) (c .before .before .pre)
 
 returns : tie.Need-returns
 unfolding fields

@@ -1,9 +1,9 @@
--- The values' verdict, then that of the end.
+-- The rules across fields, then the end.
 use Prim.Native.Nat.{_-_}
 use mathlib.Core.Path.{_≡_, sym, ap, _∙_}
 use mathlib.Core.Bool.{true, false}
 use native.Mathlib.Omega.{arith}
-use Rattle.layout.specs.Reader.{both, judged, ended}
+use Rattle.layout.specs.Reader.{both, cross, ended}
 use Rattle.layout.specs.declared.Verdict.{Verdict}
 use Rattle.layout.proofs.LayoutLaws.{table}
 use Rattle.layout.proofs.JudgeLaws.{ended-by}
@@ -11,17 +11,17 @@ use borrow.Author.Needs.{needs}
 use Rattle.layout.proofs.judge_body.Statement.{statement}
 use Rattle.layout.proofs.judge_body.Tie as tie
 
--- the values are fine: the end decides
+-- no rule across fields is broken: the end decides
 module _ (c : tie.After-enum-told) where
   abbrev entry : tie.Start
   entry = c .before .before .before .before .before
 
-  end-decides : ended (entry .args .layout) (entry .args .body .now) ≡ both (judged (entry .args .layout) (entry .args .values .now)) (ended (entry .args .layout) (entry .args .body .now))
+  end-decides : ended (entry .args .layout) (entry .args .body .now) ≡ both (cross (entry .args .layout) (entry .args .values .now)) (ended (entry .args .layout) (entry .args .body .now))
   end-decides =
-      ap (λ (v : Verdict). both v (ended (entry .args .layout) (entry .args .body .now))) (sym (c .enum-told .given .1) ∙ c .before .before .judge-values .ensures)
+      ap (λ (v : Verdict). both v (ended (entry .args .layout) (entry .args .body .now))) (sym (c .enum-told .given .1) ∙ c .before .before .cross-values .ensures)
 
-judge-values-requires : tie.Need-judge-values-requires
-judge-values-requires c κs = search needs
+cross-values-requires : tie.Need-cross-values-requires
+cross-values-requires c κs = search needs
 
 enum-known-fault : tie.Need-enum-known-fault
 enum-known-fault c = search needs
@@ -42,7 +42,7 @@ returns : tie.Need-returns
 returns c =
     let r = c .before .before .before in
     let a = r .before .before .before .args in
-    ap (λ (v : Verdict). both v (ended (a .layout) (a .body .now))) (sym (c .before .fault .given .1) ∙ r .judge-values .ensures)
+    ap (λ (v : Verdict). both v (ended (a .layout) (a .body .now))) (sym (c .before .fault .given .1) ∙ r .cross-values .ensures)
 
 returns-2 : tie.Need-returns-2
 returns-2 c =
@@ -60,7 +60,7 @@ pub judge-body-spec : {M : Type 1} → statement M
 judge-body-spec =
     tie.close
     (tie.spec
-    judge-values-requires
+    cross-values-requires
     enum-known-fault
     enum-told
     least-bytes-requires

@@ -1,20 +1,19 @@
 -- The length, then the values, then their verdict and that of the end.
 use Prim.Native.Nat.{ℕ, _≤_}
-use mathlib.Core.Path.{_≡_, sym, ap, _∙_, subst}
+use mathlib.Core.Path.{_≡_, sym, ap, _∙_}
 use mathlib.Core.List.{List}
 use native.Mathlib.Omega.{arith}
 use lib.ListN.{length, take, length-take}
 use Rattle.bits.specs.Bits.{bitsOf}
 use Rattle.layout.specs.Layouts.{fields, leastBytes}
-use Rattle.layout.specs.Obeys.{Fits}
-use Rattle.layout.specs.Reader.{valuesOf, judged, ended, both}
+use Rattle.layout.specs.Reader.{cross, ended, both}
+use Rattle.layout.specs.Inside.{takenFrom}
 use Rattle.answers.specs.Results.{good}
-use Rattle.layout.specs.Inside.{verdictSays}
+use Rattle.layout.specs.Answers.{verdictSays}
 use Rattle.layout.specs.declared.Layout.{Layout}
 use Rattle.layout.specs.declared.Verdict.{Verdict}
-use Rattle.layout.proofs.LayoutLaws.{fits-length}
-use Rattle.layout.proofs.JudgeLaws.{checked, reading-short, reading-long, both-says}
-use Rattle.layout.proofs.ObeyLaws.{read-written}
+use Rattle.layout.proofs.JudgeLaws.{reading-short, both-says}
+use Rattle.layout.proofs.TakenLaws.{across, reading-taken, taken-length}
 use borrow.Author.Needs.{needs}
 use Rattle.layout.proofs.read_body.Statement.{statement}
 use Rattle.layout.proofs.read_body.Tie as tie
@@ -31,19 +30,16 @@ module _ (c : tie.After-enum-told) where
   body = entry .args .body .now
 
   abbrev vs : List ℕ
-  vs = take (length (fields layout)) (c .before .before .before .read-values .result .values)
+  vs = take (length (fields layout)) (c .before .before .before .read-fields .result .values)
 
-  were-read : valuesOf (fields layout) 0 (bitsOf body) ≡ good vs
-  were-read = sym (c .before .before .before .read-values .ensures) ∙ ap (λ (v : Verdict). verdictSays v vs) (c .enum-told .given .1)
-
-  fit : Fits (fields layout) vs
-  fit = read-written body (fields layout) 0 vs were-read .0
-
-  as-many : length vs ≡ length (fields layout)
-  as-many = fits-length (fields layout) vs fit
+  were-taken : takenFrom (fields layout) 0 (bitsOf body) ≡ good vs
+  were-taken = sym (c .before .before .before .read-fields .ensures) ∙ ap (λ (v : Verdict). verdictSays v vs) (c .enum-told .given .1)
 
   enough : leastBytes layout ≤ length body
   enough = let l = c .before .before .before .before in omega (arith, l .before .least-bytes .ensures, l .if1 .left)
+
+  as-many : length vs ≡ length (fields layout)
+  as-many = taken-length layout body enough vs were-taken
 
 least-bytes-requires : tie.Need-least-bytes-requires
 least-bytes-requires c κs = search needs
@@ -51,8 +47,8 @@ least-bytes-requires c κs = search needs
 returns : tie.Need-returns
 returns c = sym (reading-short (c .before .before .before .args .layout) (c .before .before .before .args .body .now) (omega (arith, c .before .least-bytes .ensures, c .if1 .taken)))
 
-read-values-requires : tie.Need-read-values-requires
-read-values-requires c κs = search needs
+read-fields-requires : tie.Need-read-fields-requires
+read-fields-requires c κs = search needs
 
 enum-known-verdict : tie.Need-enum-known-verdict
 enum-known-verdict c = search needs
@@ -66,19 +62,19 @@ field-count-requires c κs = search needs
 array-share-prefix-values : tie.Need-array-share-prefix-values
 array-share-prefix-values c =
     let r = c .before in
-    omega (arith, as-many r, length-take (length (fields (layout r))) (r .before .before .before .read-values .result .values), c .field-count .ensures)
+    omega (arith, as-many r, length-take (length (fields (layout r))) (r .before .before .before .read-fields .result .values), c .field-count .ensures)
 
 slice-aggregate-judge-body : tie.Need-slice-aggregate-judge-body
 slice-aggregate-judge-body c =
     let f = c .before in
-    let values = f .before .before .before .before .read-values .result .values in
+    let values = f .before .before .before .before .read-fields .result .values in
     f .field-count .ensures ∙ sym (ap (λ (n : ℕ). length (take n values)) (f .field-count .ensures) ∙ as-many (f .before))
 
 judge-body-requires : tie.Need-judge-body-requires
 judge-body-requires c κs =
     let f = c .before in
-    let values = f .before .before .before .before .read-values .result .values in
-    (enough (f .before), subst (λ (n : ℕ). Fits (fields (layout (f .before))) (take n values)) (sym (f .field-count .ensures)) (fit (f .before)))
+    let values = f .before .before .before .before .read-fields .result .values in
+    (enough (f .before), ap (λ (n : ℕ). length (take n values)) (f .field-count .ensures) ∙ as-many (f .before))
 
 returns-2 : tie.Need-returns-2
 returns-2 c =
@@ -86,18 +82,18 @@ returns-2 c =
     let l = r .before in
     let a = l .before .before .before .args in
     sym
-    (reading-long (a .layout) (a .body .now) (omega (arith, l .before .least-bytes .ensures, l .if1 .left))
-    ∙ ap (checked (a .layout) (a .body .now)) (sym (r .read-values .ensures) ∙ ap (λ (v : Verdict). verdictSays v (take (length (fields (a .layout))) (r .read-values .result .values))) (c .before .verdict .given .1)))
+    (reading-taken (a .layout) (a .body .now) (omega (arith, l .before .least-bytes .ensures, l .if1 .left))
+    ∙ ap (across (a .layout) (a .body .now)) (sym (r .read-fields .ensures) ∙ ap (λ (v : Verdict). verdictSays v (take (length (fields (a .layout))) (r .read-fields .result .values))) (c .before .verdict .given .1)))
 
 returns-3 : tie.Need-returns-3
 returns-3 c =
     let f = c .before .before in
     let t = f .before in
-    let values = t .before .before .before .read-values .result .values in
-    let found = c .judge-body .ensures ∙ ap (λ (n : ℕ). both (judged (layout t) (take n values)) (ended (layout t) (body t))) (f .field-count .ensures) in
+    let values = t .before .before .before .read-fields .result .values in
+    let found = c .judge-body .ensures ∙ ap (λ (n : ℕ). both (cross (layout t) (take n values)) (ended (layout t) (body t))) (f .field-count .ensures) in
     ap (λ (v : Verdict). verdictSays v (vs t)) found
-    ∙ both-says (judged (layout t) (vs t)) (ended (layout t) (body t)) (vs t)
-    ∙ sym (reading-long (layout t) (body t) (enough t) ∙ ap (checked (layout t) (body t)) (were-read t))
+    ∙ both-says (cross (layout t) (vs t)) (ended (layout t) (body t)) (vs t)
+    ∙ sym (reading-taken (layout t) (body t) (enough t) ∙ ap (across (layout t) (body t)) (were-taken t))
 
 pub read-body-spec : {M : Type 1} → statement M
 read-body-spec =
@@ -105,7 +101,7 @@ read-body-spec =
     (tie.spec
     least-bytes-requires
     returns
-    read-values-requires
+    read-fields-requires
     enum-known-verdict
     enum-told
     field-count-requires

@@ -1,9 +1,9 @@
 -- The layout's reading decides the step.
 use mathlib.Core.Path.{_≡_, sym, ap, _∙_}
 use borrow.Author.Needs.{needs}
-use Rattle.layout.specs.Answers.{extensionGives}
-use Rattle.layout.specs.Reader.{extensionResult}
-use Rattle.layout.specs.declared.ExtensionReading.{ExtensionReading}
+use Rattle.bodies.specs.Answers.{extensionGives}
+use Rattle.bodies.specs.Reader.{extensionResult}
+use Rattle.bodies.specs.declared.ExtensionReading.{ExtensionReading}
 use Rattle.grammar.specs.Reader.{by}
 use Rattle.steps.proofs.extension_step.Statement.{statement}
 use Rattle.steps.proofs.extension_step.Tie as tie
@@ -11,7 +11,7 @@ use Rattle.steps.proofs.extension_step.Tie as tie
 -- what a reading gives is the step
 given : (c : tie.After-read-extension) {y : ExtensionReading} → c .read-extension .result ≡ y →
     let a = c .before .before .args in
-    by (extensionGives y) (λ x. a .next) ≡ by (extensionResult (a .place) (a .body .now)) (λ x. a .next)
+    by (extensionGives y) (λ x. a .next) ≡ by (extensionResult (a .scope) (a .body .now)) (λ x. a .next)
 given c e =
     let a = c .before .before .args in
     ap (λ (y : ExtensionReading). by (extensionGives y) (λ x. a .next)) (sym e) ∙ ap (λ r. by r (λ x. a .next)) (c .read-extension .ensures)

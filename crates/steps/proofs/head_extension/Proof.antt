@@ -3,7 +3,7 @@ use mathlib.Core.Path.{_≡_, sym, ap, _∙_}
 use mathlib.Core.Bool.{true}
 use borrow.Author.Needs.{needs}
 use borrow.Author.Tests.{not-true, not-false}
-use Rattle.layout.specs.Extensions.{numbered}
+use Rattle.bodies.specs.Extensions.{numbered}
 use Rattle.grammar.specs.Reader.{by}
 use Rattle.grammar.specs.declared.State.the-variants.{Head}
 use Rattle.steps.proofs.StepLaws.{head-display}

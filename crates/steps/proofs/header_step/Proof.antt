@@ -3,9 +3,9 @@ use Prim.Native.Nat.{ℕ}
 use mathlib.Core.Path.{_≡_, sym, ap, _∙_}
 use mathlib.Core.Bool.{Bool, false}
 use borrow.Author.Needs.{needs}
-use Rattle.layout.specs.Answers.{headerGives}
-use Rattle.layout.specs.declared.HeaderReading.{HeaderReading}
-use Rattle.layout.specs.declared.SequenceHeader.{SequenceHeader}
+use Rattle.bodies.specs.Answers.{headerGives}
+use Rattle.bodies.specs.declared.HeaderReading.{HeaderReading}
+use Rattle.bodies.specs.declared.SequenceHeader.{SequenceHeader}
 use Rattle.macroblocks.specs.Macroblocks.{slicesTested, macroblockRows}
 use Rattle.grammar.specs.Grammar.{sliceRule}
 use Rattle.grammar.specs.Reader.{by, headerStep}

@@ -7,10 +7,10 @@ use lib.ListN.{length}
 use Rattle.answers.specs.Answers.{Outcome, done}
 use Rattle.startcode.specs.Kinds.{kindOf, kindSays}
 use Rattle.startcode.specs.declared.Kind.{Kind}
-use Rattle.layout.specs.declared.Place.{Place}
+use Rattle.bodies.specs.declared.Scope.{Scope}
 use Rattle.grammar.specs.Grammar.{StreamUnit}
 use Rattle.grammar.specs.Rows.{placed, trimmed, wholeBody, rowLength}
-use Rattle.grammar.specs.Reader.{choose, table, byKind, step, placeIn}
+use Rattle.grammar.specs.Reader.{choose, table, byKind, step, scopeIn}
 use Rattle.grammar.specs.declared.Step.{Step}
 use Rattle.units.specs.Reader.{nextOf, unitFrom}
 use Rattle.units.specs.declared.UnitAnswer.the-variants as answer
@@ -33,7 +33,7 @@ module _ (t : tie.After-in-state) where
   u = unit-of start
 
   abbrev the-length : ℕ
-  the-length = rowLength (placed (placeIn (start .args .state) u) u)
+  the-length = rowLength (placed (scopeIn (start .args .state) u) u)
 
   is : kindOf (u .code) ≡ done (named .kind .given .0 .0)
   is = sym (named .before .before .kind-of .ensures) ∙ ap kindSays (named .kind .given .1)
@@ -50,8 +50,8 @@ kind-of-requires c κs = search needs
 enum-known-kind : tie.Need-enum-known-kind
 enum-known-kind c = search needs
 
-place-in-requires : tie.Need-place-in-requires
-place-in-requires c κs = search needs
+scope-in-requires : tie.Need-scope-in-requires
+scope-in-requires c κs = search needs
 
 in-state-requires : tie.Need-in-state-requires
 in-state-requires c κs = search needs
@@ -69,7 +69,7 @@ enum-told : tie.Need-enum-told
 enum-told c = search needs
 
 returns : tie.Need-returns
-returns c = let g = c .before .before .next .given in let t = c .before .before .before .before in let k = named t .kind .given .0 .0 in let b = u t .body in ap (λ (n : ℕ). answer.Next (g .0 .0) (start t .args .end) n) (c .row-length .ensures ∙ ap (λ (p : Place). length (cond (wholeBody (done k) p b) b (trimmed b))) (t .before .place-in .ensures) ∙ length-same (start t .args .state) k (u t) (is t)) ∙ answered t (g .1)
+returns c = let g = c .before .before .next .given in let t = c .before .before .before .before in let k = named t .kind .given .0 .0 in let b = u t .body in ap (λ (n : ℕ). answer.Next (g .0 .0) (start t .args .end) n) (c .row-length .ensures ∙ ap (λ (p : Scope). length (cond (wholeBody (done k) p b) b (trimmed b))) (t .before .scope-in .ensures) ∙ length-same (start t .args .state) k (u t) (is t)) ∙ answered t (g .1)
 
 returns-2 : tie.Need-returns-2
 returns-2 c = answered (c .before .before .before) (c .before .why .given .1)
@@ -84,7 +84,7 @@ unit-of-spec =
     (tie.spec
     kind-of-requires
     enum-known-kind
-    place-in-requires
+    scope-in-requires
     in-state-requires
     enum-known-next
     row-length-requires

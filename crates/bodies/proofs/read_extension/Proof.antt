@@ -1,0 +1,61 @@
+-- An empty body has no number, and is SHORT; any other goes by its number.
+use mathlib.Core.Path.{_≡_, sym, ap, _∙_}
+use Rattle.bits.specs.declared.Read.{Read}
+use Rattle.layout.specs.Reader.{readValue}
+use Rattle.bodies.specs.Reader.{byNumber, extensionResult}
+use Rattle.answers.specs.Results.{_>>=_}
+use Rattle.bodies.specs.Answers.{extensionGives}
+use borrow.Author.Needs.{needs}
+use Rattle.bodies.proofs.read_extension.Statement.{statement}
+use Rattle.bodies.proofs.read_extension.Tie as tie
+
+module _ (c : tie.After-number-of) where
+  abbrev entry : tie.Start
+  entry = c .before .before
+
+  by-read : (x : Read) → c .number-of .result ≡ x → extensionResult (entry .args .scope) (entry .args .body .now) ≡ (readValue x >>= byNumber (entry .args .scope) (entry .args .body .now))
+  unfolding extensionResult
+  by-read x e =
+      let a = entry .args in
+      ap (λ (x : Read). readValue x >>= byNumber (a .scope) (a .body .now)) (sym (c .number-of .ensures) ∙ e)
+
+number-of-requires : tie.Need-number-of-requires
+number-of-requires c κs = search needs
+
+enum-known-number : tie.Need-enum-known-number
+enum-known-number c = search needs
+
+by-number-requires : tie.Need-by-number-requires
+by-number-requires c κs = search needs
+
+enum-told : tie.Need-enum-told
+enum-told c = search needs
+
+enum-told-2 : tie.Need-enum-told-2
+enum-told-2 c = search needs
+
+returns : tie.Need-returns
+returns c =
+    let r = c .before .before .before .before in
+    c .by-number .ensures ∙ sym (by-read r _ (c .before .before .number .given .1))
+
+returns-2 : tie.Need-returns-2
+unfolding extensionGives
+returns-2 c = sym (by-read (c .before .before) _ (c .enum-told .given .1))
+
+returns-3 : tie.Need-returns-3
+unfolding extensionGives
+returns-3 c = sym (by-read (c .before .before) _ (c .enum-told2 .given .1))
+
+pub read-extension-spec : {M : Type 1} → statement M
+read-extension-spec =
+    tie.close
+    (tie.spec
+    number-of-requires
+    enum-known-number
+    by-number-requires
+    enum-told
+    enum-told-2
+    returns
+    returns-2
+    returns-3)

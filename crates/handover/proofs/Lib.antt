@@ -1,0 +1,4 @@
+-- The laws that the proofs cite, and the theorems.
+pub mod HandedLaws
+pub mod CountLaws
+pub mod Main

@@ -1,0 +1,36 @@
+-- The bin with what follows it, or what was asked with.
+use Prim.Native.Nat.{ℕ}
+use mathlib.Core.Path.{refl, ap}
+use borrow.Author.Needs.{needs}
+use Rattle.aec.specs.Says.{decodedSays}
+use Rattle.marked.specs.declared.Bin.{Bin}
+use Rattle.marked.specs.Payloads.{noBin, binAnswer}
+use Rattle.answers.proofs.OutcomeLaws.{arm-answers}
+use Rattle.marked.proofs.decode.Statement.{statement}
+use Rattle.marked.proofs.decode.Tie as tie
+
+returns : tie.Need-returns
+returns c =
+    let g = c .before in
+    let k = g .before .before in
+    let a = k .before .before .args in
+    arm-answers (binAnswer (a .state) (a .context)) decodedSays (g .bin .given .1) (k .decode .ensures) refl
+
+returns-2 : tie.Need-returns-2
+returns-2 c =
+    let g = c .before .before in
+    let k = g .before .before in
+    let a = k .before .before .args in
+    let refusal : ℕ → Bin = λ n. record { status = n; bin = noBin; state = a .state; context = a .context } in
+    arm-answers (binAnswer (a .state) (a .context)) decodedSays (g .why .given .1) (k .decode .ensures) (ap refusal (c .bin-number .ensures))
+
+pub decode-spec : {M : Type 1} → statement M
+decode-spec =
+    tie.close
+    (tie.spec
+    (λ c κs. search needs)
+    (λ c. search needs)
+    (λ c. search needs)
+    (λ c κs. search needs)
+    returns
+    returns-2)

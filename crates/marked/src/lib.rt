@@ -1,0 +1,231 @@
+// Exp-Golomb numbers and bins by value. A refusal gives back the place, the state and the contexts that were asked with, and has a
+// mark that is no number and no bin in place of what it has none of.
+use aec::Decoded;
+use aec::DecodedPair;
+use aec::Started;
+use aec::State;
+use aec::Stepped;
+use contexts::Context;
+use payload::Golomb;
+use payload::SignedGolomb;
+ghost use mathlib.Core.Path.{_≡_};
+ghost use mathlib.Core.List.{[]};
+ghost use Rattle.answers.specs.Answers.{refused};
+ghost use Rattle.payload.specs.Reader.{golomb, signedGolomb};
+ghost use Rattle.aec.specs.Bins.{startOf, bypassOf, stuffingOf, decodeOf, decodePairOf};
+ghost use Rattle.aec.specs.Says.{refusalNumber, steppedSays};
+ghost use Rattle.marked.specs.Payloads.{numberAnswer, signedAnswer, begunAnswer, plainAnswer, binAnswer, pairAnswer};
+
+// An Exp-Golomb number with the place after it.
+#[repr(C)]
+pub struct Number {
+    pub status: u32,
+    pub number: u32,
+    pub place: usize,
+}
+
+#[repr(C)]
+pub struct SignedNumber {
+    pub status: u32,
+    pub number: i32,
+    pub place: usize,
+}
+
+#[repr(C)]
+pub struct Begun {
+    pub status: u32,
+    pub state: State,
+}
+
+// A bin of no context, of one and of two, with what follows it.
+#[repr(C)]
+pub struct PlainBin {
+    pub status: u32,
+    pub bin: u32,
+    pub state: State,
+}
+
+#[repr(C)]
+pub struct Bin {
+    pub status: u32,
+    pub bin: u32,
+    pub state: State,
+    pub context: Context,
+}
+
+#[repr(C)]
+pub struct PairBin {
+    pub status: u32,
+    pub bin: u32,
+    pub state: State,
+    pub first: Context,
+    pub second: Context,
+}
+
+// In place of a number, a signed number and a bin that are not there.
+const NO_NUMBER: u32 = 0xFFFFFFFF;
+
+const NO_SIGNED_NUMBER: i32 = -2147483648;
+
+const NO_BIN: u32 = 2;
+
+// ── Exp-Golomb numbers ──
+
+fn no_number(status: u32, place: usize) -> Number
+    ensures { λ r. ⌜ r ≡ numberAnswer place (refused status []) ⌝ }
+{
+    Number {
+        status: status,
+        number: NO_NUMBER,
+        place: place,
+    }
+}
+
+fn no_signed_number(status: u32, place: usize) -> SignedNumber
+    ensures { λ r. ⌜ r ≡ signedAnswer place (refused status []) ⌝ }
+{
+    SignedNumber {
+        status: status,
+        number: NO_SIGNED_NUMBER,
+        place: place,
+    }
+}
+
+// The Exp-Golomb number at a place of a payload.
+pub fn unsigned_golomb(bytes: &[u8], bits: usize, place: usize) -> Number
+    ensures { λ r. ⌜ r ≡ numberAnswer place (golomb (now (bytes .entry)) bits place) ⌝ }
+{
+    match payload::unsigned_golomb(bytes, bits, place) {
+        Golomb::Number(n, next) => Number {
+            status: 0,
+            number: n,
+            place: next,
+        },
+        Golomb::Value => no_number(8, place),
+        Golomb::TooLong => no_number(13, place),
+        Golomb::PayloadOut => no_number(14, place),
+    }
+}
+
+// The same as a signed number.
+pub fn signed_golomb(bytes: &[u8], bits: usize, place: usize) -> SignedNumber
+    ensures { λ r. ⌜ r ≡ signedAnswer place (signedGolomb (now (bytes .entry)) bits place) ⌝ }
+{
+    match payload::signed_golomb(bytes, bits, place) {
+        SignedGolomb::Number(n, next) => SignedNumber {
+            status: 0,
+            number: n,
+            place: next,
+        },
+        SignedGolomb::Value => no_signed_number(8, place),
+        SignedGolomb::TooLong => no_signed_number(13, place),
+        SignedGolomb::PayloadOut => no_signed_number(14, place),
+    }
+}
+
+// ── bins ──
+
+fn bin_number(why: aec::Refusal) -> u32
+    ensures { λ r. ⌜ r ≡ refusalNumber why ⌝ }
+{
+    match why {
+        aec::Refusal::TooLong => 13,
+        aec::Refusal::BadState => 15,
+        aec::Refusal::PayloadOut => 14,
+    }
+}
+
+// The state after a start on a payload.
+pub fn start(bytes: &[u8], bits: usize, state: State) -> Begun
+    ensures { λ r. ⌜ r ≡ begunAnswer state (startOf (now (bytes .entry)) bits) ⌝ }
+{
+    match aec::start(bytes, bits) {
+        Started::Done(next) => Begun {
+            status: 0,
+            state: next,
+        },
+        Started::Refused(why) => Begun {
+            status: bin_number(why),
+            state: state,
+        },
+    }
+}
+
+// A bin by one context.
+pub fn decode(bytes: &[u8], bits: usize, state: State, context: Context) -> Bin
+    ensures { λ r. ⌜ r ≡ binAnswer state context (decodeOf (now (bytes .entry)) bits state context) ⌝ }
+{
+    match aec::decode(bytes, bits, state, context) {
+        Decoded::Done(bin, next, updated) => Bin {
+            status: 0,
+            bin: bin,
+            state: next,
+            context: updated,
+        },
+        Decoded::Refused(why) => Bin {
+            status: bin_number(why),
+            bin: NO_BIN,
+            state: state,
+            context: context,
+        },
+    }
+}
+
+// A bin by two contexts.
+pub fn decode_pair(
+    bytes: &[u8],
+    bits: usize,
+    state: State,
+    first: Context,
+    second: Context,
+) -> PairBin
+    ensures { λ r. ⌜ r ≡ pairAnswer state first second (decodePairOf (now (bytes .entry)) bits state first second) ⌝ }
+{
+    match aec::decode_pair(bytes, bits, state, first, second) {
+        DecodedPair::Done(bin, next, a, b) => PairBin {
+            status: 0,
+            bin: bin,
+            state: next,
+            first: a,
+            second: b,
+        },
+        DecodedPair::Refused(why) => PairBin {
+            status: bin_number(why),
+            bin: NO_BIN,
+            state: state,
+            first: first,
+            second: second,
+        },
+    }
+}
+
+fn plain_bin(answer: Stepped, state: State) -> PlainBin
+    ensures { λ r. ⌜ r ≡ plainAnswer state (steppedSays answer) ⌝ }
+{
+    match answer {
+        Stepped::Done(bin, next) => PlainBin {
+            status: 0,
+            bin: bin,
+            state: next,
+        },
+        Stepped::Refused(why) => PlainBin {
+            status: bin_number(why),
+            bin: NO_BIN,
+            state: state,
+        },
+    }
+}
+
+// A bypass bin.
+pub fn bypass(bytes: &[u8], bits: usize, state: State) -> PlainBin
+    ensures { λ r. ⌜ r ≡ plainAnswer state (bypassOf (now (bytes .entry)) bits state) ⌝ }
+{
+    plain_bin(aec::bypass(bytes, bits, state), state)
+}
+
+// A stuffing bin.
+pub fn stuffing(bytes: &[u8], bits: usize, state: State) -> PlainBin
+    ensures { λ r. ⌜ r ≡ plainAnswer state (stuffingOf (now (bytes .entry)) bits state) ⌝ }
+{
+    plain_bin(aec::stuffing(bytes, bits, state), state)
+}

@@ -1,0 +1,52 @@
+-- An answer of document 01 by value: a status, an offset and a count; a part of a stream; the number of a kind.
+use Prim.Native.Nat.{ℕ, _+_}
+use mathlib.Core.List.{List, [], _∷_}
+use mathlib.Core.Option.{Option, none, some}
+use Rattle.answers.specs.Answers.{Outcome, done, refused, mapDone}
+use Rattle.startcode.specs.declared.Kind.{Kind}
+use Rattle.startcode.specs.declared.Kind.the-variants.{Slice, SequenceHeader, SequenceEnd, UserData, IPicture, Extension, PBPicture, EditCode}
+use Rattle.grammar.specs.Rows.{Row}
+use Rattle.filing.specs.declared.Totals.{Totals}
+use Rattle.statuses.specs.declared.Answer.{Answer}
+use Rattle.statuses.specs.declared.Part.{Part}
+
+-- ── statuses ──
+
+-- the offset that a refused stream carries; 0 where there is none, as document 01 has it for NO CODE, FULL and TOO LONG
+abbrev pub offsetOf : List ℕ → ℕ
+offsetOf [] = 0
+offsetOf (offset ∷ more) = offset
+
+-- A status is document 01's number; a refusal hands nothing over.
+abbrev pub counted : Outcome ℕ → Answer
+counted (done n) = record { status = 0; offset = 0; count = n }
+counted (refused number carried) = record { status = number; offset = offsetOf carried; count = 0 }
+
+-- ── recordings ──
+
+-- filing's count is that of the units
+abbrev pub filedAnswer : Outcome Totals → Answer
+filedAnswer o = counted (mapDone (λ t. t .units) o)
+
+-- where the body of a row lies in the stream; for no row the empty part at the stream's start
+abbrev pub partAt : Option Row → Part
+partAt none = record { offset = 0; length = 0 }
+partAt (some r) = record { offset = r .offset + 4; length = r .length }
+
+-- ── start codes ──
+
+-- the numbers of the kinds of unit, in document 01's order
+abbrev pub kindNumber : Kind → ℕ
+kindNumber Slice = 0
+kindNumber SequenceHeader = 1
+kindNumber SequenceEnd = 2
+kindNumber UserData = 3
+kindNumber IPicture = 4
+kindNumber Extension = 5
+kindNumber PBPicture = 6
+kindNumber EditCode = 7
+
+-- 8 where the code is UNKNOWN
+abbrev pub kindAnswer : Outcome Kind → ℕ
+kindAnswer (done kind) = kindNumber kind
+kindAnswer (refused number carried) = 8

@@ -1,0 +1,2 @@
+-- What C and Rust are answered by value.
+pub mod Answers
