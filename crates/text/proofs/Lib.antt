@@ -1,0 +1,4 @@
+pub mod PutLaws
+pub mod SpellingLaws
+pub mod ReadLaws
+pub mod Main

@@ -1,0 +1,2 @@
+-- What is promised of texts put into lent bytes.
+pub mod Text

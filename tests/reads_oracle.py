@@ -1,0 +1,60 @@
+#!/usr/bin/env python3
+"""The answers that document 01 asks for the questions of crates/run_reads, worked out from the document alone.
+
+Reads the questions (not the code) from crates/run_reads/src/main.rt and prints what the program must print. The gate holds
+this to crates/run_reads/stdout, and rt ci holds the program to that file.
+
+    read BYTES COUNT PLACE WIDTH    the bit there or none; the number, none or wide
+    prefix AT                       whether 00 00 01 stands there
+    macroblocks WIDTH HEIGHT        columns, rows, whether slices are tested
+    row LENT I                      whether it exists, and its body
+"""
+from questions import Questions, bits_of, hexed
+
+ASKED = Questions("run_reads")
+PREFIX = b"\0\0\1"
+
+
+# ── bits and prefixes ──
+
+
+def reads():
+    for lent, count, place, width in ASKED.calls("read"):
+        data = ASKED.constant("HELD")[:lent]
+        bits = bits_of(data)[:count]
+        bit = bits[place] if place < len(bits) else "none"
+        taken = bits[place:place + width]
+        if width > 32:
+            value = "wide"
+        else:
+            value = int(taken or "0", 2) if len(taken) == width else "none"
+        print("read", hexed(data), count, place, width, bit, value)
+
+
+def prefixes():
+    for at, in ASKED.calls("prefix"):
+        print("prefix", at, int(ASKED.constant("PREFIXES")[at:at + 3] == PREFIX))
+
+
+# ── macroblocks and rows ──
+
+
+def macroblocks():
+    for horizontal, vertical in ASKED.calls("macroblock"):
+        print("macroblocks", horizontal, vertical, (horizontal + 15) // 16, (vertical + 15) // 16, int(vertical <= 2800))
+
+
+def rows():
+    words = ASKED.words("WORDS")
+    held = list(zip(words[0::3], words[1::3], words[2::3]))
+    for lent, i in ASKED.calls("row"):
+        stream = ASKED.constant("UNITS")[:lent]
+        exists = i < len(held) and held[i][1] + 4 + held[i][2] <= len(stream)
+        body = stream[held[i][1] + 4:][:held[i][2]] if exists else b""
+        print("row", len(stream), i, int(exists), hexed(body))
+
+
+reads()
+prefixes()
+macroblocks()
+rows()
