@@ -1,6 +1,7 @@
 -- The laws of the two passes.
 use Prim.Native.Nat.{ℕ, suc, _≤_, _<_, _+_, _*_}
-use mathlib.Core.Path.{_≡_, refl, sym, _∙_, ap}
+use mathlib.Core.Path.{_≡_, refl, sym, _∙_, ap, subst}
+use mathlib.Core.Logic.{inl, inr}
 use mathlib.Core.List.{List, [], _∷_, _++_, append-assoc, append-nil}
 use mathlib.Core.Bool.{Bool, true, false, cond}
 use lib.ListN.{length, getD, take, drop, set, length-append, length-drop, take-append-drop}
@@ -11,18 +12,25 @@ use Rattle.answers.specs.Limits.{longestStream}
 use Rattle.answers.specs.Results.{Result, good, bad, mapGood}
 use Rattle.answers.proofs.ResultLaws.{not-good, good-same, map-good}
 use Rattle.bits.proofs.TestLaws.{by-test}
-use Rattle.startcode.specs.Prefix.{begins}
-use Rattle.grammar.specs.Grammar.{bytes}
-use Rattle.grammar.specs.Rows.{Placed, rowLength, rowsFrom, words}
+use Rattle.startcode.specs.Kinds.{kindOf}
+use Rattle.startcode.specs.Prefix.{begins, nextPrefix}
+use Rattle.bodies.specs.declared.Scope.{Scope}
+use Rattle.bodies.specs.declared.Scope.the-variants as scope
+use Rattle.grammar.specs.Grammar.{StreamUnit, bytes}
+use Rattle.grammar.specs.Rows.{Placed, placed, rowLength, rowsFrom, words}
 use Rattle.grammar.specs.Reader.{final, Stopped, Walk, stopAt, addUnit, walkOfAny, said}
 use Rattle.grammar.specs.declared.State.{State}
 use Rattle.grammar.specs.declared.State.the-variants.{Start}
 use Rattle.grammar.specs.declared.Reason.the-variants.{NoCode, Unended}
+use Rattle.grammar.proofs.Division.{Goes, sequence, user, extension, display, first-picture, extra, first-slice, next-slice, next-picture, next-sequence, end as sequence-end, edit, end-edit}
 use Rattle.grammar.proofs.RowLaws.{rows-length}
-use Rattle.grammar.proofs.WalkLaws.{left, left-end}
-use Rattle.units.proofs.UnitLaws.{Advanced}
+use Rattle.grammar.proofs.StepLaws.{step-sound}
+use Rattle.grammar.proofs.WalkLaws.{left, left-end, unitBetween}
+use Rattle.units.specs.Inside.{extensionScope}
+use Rattle.units.proofs.LengthLaws.{scope-same}
+use Rattle.units.proofs.UnitLaws.{Advanced, stands}
 use Rattle.filing.specs.Filing.{wordsAfter}
-use Rattle.filing.specs.Inside.{Writable}
+use Rattle.filing.specs.Inside.{scopeAfter, Writable}
 
 pub any-left : (s : List ℕ) → begins s ≡ true → walkOfAny s ≡ left s Start 0
 unfolding walkOfAny left
@@ -81,16 +89,39 @@ pub no-code : (s : List ℕ) → begins s ≡ false → stopAt NoCode 0 ≡ mapG
 unfolding walkOfAny
 no-code s f = rw f
 
+-- ── scopes ──
+
+-- the kind of a unit that goes on settles the scope after it
+after-goes : {q q′ : State} {u : StreamUnit} → Goes q u q′ → scopeAfter (extensionScope q) (kindOf (u .code)) ≡ extensionScope q′
+after-goes (sequence c k) = rw c refl
+after-goes (user c) = rw c refl
+after-goes (extension c k n) = rw c refl
+after-goes (display c k n d) = rw c refl
+after-goes (first-picture c k) = rw c refl
+after-goes (extra (inl c)) = rw c refl
+after-goes (extra (inr k)) = rw (k .0) refl
+after-goes (first-slice k o) = rw (k .0) refl
+after-goes (next-slice k o) = rw (k .0) refl
+after-goes (next-picture (inl c) k) = rw c refl
+after-goes (next-picture (inr c) k) = rw c refl
+after-goes (next-sequence c k) = rw c refl
+after-goes (sequence-end c k) = rw c refl
+after-goes (edit c k) = rw c refl
+after-goes (end-edit c k) = rw c refl
+
 -- ── writing ──
 
--- what holds at the second pass's head: the rows that are written and those that are left make the whole
-pub record Writing (s lent rows : List ℕ) (q : State) (at i : ℕ) : Type 0 where
+-- what holds at the second pass's head: the rows that are written and those that are left make the whole; of the state that the units so far
+-- lead to the pass knows the scope alone
+pub record Writing (s lent rows : List ℕ) (p : Scope) (at i : ℕ) : Type 0 where
   pub all : List Placed
   pub rest : List Placed
+  pub state : State
+  pub scope-is : p ≡ extensionScope state
   pub walked : walkOfAny s ≡ good all
   pub short : length s ≤ longestStream
   pub room : 3 * length all ≤ length lent
-  pub rest-is : left s q at ≡ good rest
+  pub rest-is : left s state at ≡ good rest
   pub count : i + length rest ≡ length all
   pub made : take (i * 3) rows ++ words (rowsFrom at rest) ≡ words (rowsFrom 0 all)
   pub later : drop (i * 3) rows ≡ drop (i * 3) lent
@@ -98,17 +129,36 @@ pub record Writing (s lent rows : List ℕ) (q : State) (at i : ℕ) : Type 0 wh
   pub inside : at ≤ length s
   pub here : at < length s → begins (drop at s) ≡ true
 
+-- the unit at an offset, by its scope
+pub record UnitHere (s : List ℕ) (p : Scope) (q : State) (at : ℕ) : Type 0 where
+  pub next : State
+  pub advanced : Advanced s q at next (nextPrefix s (at + 3)) (rowLength (placed p (unitBetween s at (nextPrefix s (at + 3)))))
+  pub after : scopeAfter p (kindOf (getD s (at + 3) 0)) ≡ extensionScope next
+
+pub unit-here : (s lent rows : List ℕ) (p : Scope) (at i : ℕ) (w : Writing s lent rows p at i) → at < length s → UnitHere s p (w .state) at
+unit-here s lent rows p at i w h =
+    let u = unitBetween s at (nextPrefix s (at + 3)) in
+    let t = stands s (w .state) at (w .rest) (w .here h) (w .rest-is) in
+    let l : rowLength (placed p u) ≡ _ = ap (λ (x : Scope). rowLength (placed x u)) (w .scope-is) ∙ scope-same (w .state) u in
+    record {
+      next = t .next;
+      advanced = subst (Advanced s (w .state) at (t .next) (nextPrefix s (at + 3))) (sym l) (t .advanced);
+      after = ap (λ (x : Scope). scopeAfter x (kindOf (u .code))) (w .scope-is) ∙ after-goes (step-sound (w .state) u (t .next) (t .goes-on));
+    }
+
 -- a stream that is filed begins with a prefix
 begun : (s : List ℕ) (ms : List Placed) → walkOfAny s ≡ good ms → begins s ≡ true
 unfolding walkOfAny
 begun s ms e = by-test (begins s) (λ t. t) (λ f. not-good (rw f at e))
 
-pub writing-start : (s lent : List ℕ) → Writable s lent → Writing s lent lent Start 0 0
+pub writing-start : (s lent : List ℕ) → Writable s lent → Writing s lent lent scope.Picture 0 0
 writing-start s lent w =
     let b = begun s (w .all) (w .walked) in
     record {
       all = w .all;
       rest = w .all;
+      state = Start;
+      scope-is = refl;
       walked = w .walked;
       short = w .short;
       room = w .room;
@@ -122,7 +172,7 @@ writing-start s lent w =
     }
 
 -- one row more
-module _ (s lent rows : List ℕ) (q : State) (at i : ℕ) (next : State) (end n : ℕ) (w : Writing s lent rows q at i) (a : Advanced s q at next end n) where
+module _ (s lent rows : List ℕ) (p : Scope) (at i : ℕ) (next : State) (end n : ℕ) (w : Writing s lent rows p at i) (a : Advanced s (w .state) at next end n) where
   next-units : (rest : List Placed) × (left s next end ≡ good rest) × (a .unit ∷ rest ≡ w .rest)
   next-units = map-good (λ ms. a .unit ∷ ms) (left s next end) (w .rest) (sym (a .more) ∙ w .rest-is)
 
@@ -145,8 +195,8 @@ module _ (s lent rows : List ℕ) (q : State) (at i : ℕ) (next : State) (end n
   front-length : length (take (i * 3) rows ++ three) ≡ i * 3 + 3
   front-length = let r = writing-room in length-append (take (i * 3) rows) three ∙ rw (length-take-le (i * 3) rows (omega arith))
 
-  pub writing-next : (rows′ : List ℕ) → rows′ ≡ take (i * 3) rows ++ (getD s (at + 3) 0 ∷ at ∷ n ∷ drop (i * 3 + 3) rows) → Writing s lent rows′ next end (i + 1)
-  writing-next rows′ e =
+  pub writing-next : (rows′ : List ℕ) (p′ : Scope) → rows′ ≡ take (i * 3) rows ++ (getD s (at + 3) 0 ∷ at ∷ n ∷ drop (i * 3 + 3) rows) → p′ ≡ extensionScope next → Writing s lent rows′ p′ end (i + 1)
+  writing-next rows′ p′ e f =
       let r = next-units in
       let l : suc (length (r .0)) ≡ length (w .rest) = ap length (r .2) in
       let room = writing-room in
@@ -156,6 +206,8 @@ module _ (s lent rows : List ℕ) (q : State) (at i : ℕ) (next : State) (end n
       record {
         all = w .all;
         rest = r .0;
+        state = next;
+        scope-is = f;
         walked = w .walked;
         short = w .short;
         room = w .room;
@@ -175,10 +227,10 @@ module _ (s lent rows : List ℕ) (q : State) (at i : ℕ) (next : State) (end n
       }
 
 -- the end: nothing is left
-pub writing-end : (s lent rows : List ℕ) (q : State) (at i : ℕ) → Writing s lent rows q at i → length s ≤ at → rows ≡ wordsAfter (said (rowsFrom 0) (walkOfAny s)) lent
-writing-end s lent rows q at i w h =
+pub writing-end : (s lent rows : List ℕ) (p : Scope) (at i : ℕ) → Writing s lent rows p at i → length s ≤ at → rows ≡ wordsAfter (said (rowsFrom 0) (walkOfAny s)) lent
+writing-end s lent rows p at i w h =
     let e : at ≡ length s = omega (arith, w .inside) in
-    let none : w .rest ≡ [] = ended (final q) (w .rest) (sym (ap (left s q) e ∙ left-end s q) ∙ w .rest-is) in
+    let none : w .rest ≡ [] = ended (final (w .state)) (w .rest) (sym (ap (left s (w .state)) e ∙ left-end s (w .state)) ∙ w .rest-is) in
     let k : i * 3 ≡ 3 * length (rowsFrom 0 (w .all)) = let c = ap length none in let l = rows-length 0 (w .all) in omega (arith, w .count) in
     let front : take (i * 3) rows ≡ words (rowsFrom 0 (w .all)) = sym (append-nil (take (i * 3) rows)) ∙ ap (λ (x : List Placed). take (i * 3) rows ++ words (rowsFrom at x)) (sym none) ∙ w .made in
     sym (take-append-drop (i * 3) rows) ∙ ap (λ (x : List ℕ). x ++ drop (i * 3) rows) front ∙ ap (λ (x : List ℕ). words (rowsFrom 0 (w .all)) ++ x) (w .later ∙ ap (λ (x : ℕ). drop x lent) k)

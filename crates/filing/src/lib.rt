@@ -1,20 +1,25 @@
 // Filing of one video sequence: its units are checked, counted, and then written as rows.
+use bodies::Scope;
 use grammar::State;
 use layout::Fault;
+use startcode::Kind;
+use startcode::UnitKind;
 use units::UnitAnswer;
 ghost use mathlib.Core.Path.{_≡_};
 ghost use mathlib.Core.List.{_∷_, _++_};
 ghost use Prim.Native.Nat.{_+_, _*_, _≤_, _<_};
 ghost use lib.ListN;
 ghost use lib.ListN.{length, take, drop};
+ghost use Rattle.answers.specs.Answers.{done};
 ghost use Rattle.answers.specs.Results.{mapGood};
+ghost use Rattle.startcode.specs.Kinds.{kindOf};
 ghost use Rattle.bodies.specs.Answers.{faultNumber};
 ghost use Rattle.grammar.specs.Rows.{rowsFrom};
 ghost use Rattle.grammar.specs.Reasons as inside;
 ghost use Rattle.grammar.specs.Reader.{final, said, walkOfAny, walk, filingInto};
 ghost use Rattle.filing.specs.Filing.{reasonNumber, filingSays, checkedSays, wordsAfter, FiledByReading};
 ghost use Rattle.filing.specs.Reader.{filed};
-ghost use Rattle.filing.specs.Inside.{walkedSays, Writable};
+ghost use Rattle.filing.specs.Inside.{walkedSays, scopeAfter, Writable};
 
 pub enum Reason {
     NoCode,
@@ -171,30 +176,49 @@ fn put_row(rows: &mut [u32], i: usize, code: u8, offset: usize, length: usize)
     rows[at + 2] = length as u32;
 }
 
-// The rows of a stream that is good, into words that suffice.
+// The scope of the extensions after a unit: a sequence header begins a group's head, a picture ends it.
+fn after_kind(scope: Scope, kind: Kind) -> Scope
+    ensures { λ r. ⌜ r ≡ scopeAfter scope (done kind) ⌝ }
+{
+    match kind {
+        Kind::Slice => scope,
+        Kind::SequenceHeader => Scope::Head,
+        Kind::SequenceEnd => scope,
+        Kind::UserData => scope,
+        Kind::IPicture => Scope::Picture,
+        Kind::Extension => scope,
+        Kind::PBPicture => Scope::Picture,
+        Kind::EditCode => scope,
+    }
+}
+
+fn scope_after(scope: Scope, code: u8) -> Scope
+    ensures { λ r. ⌜ r ≡ scopeAfter scope (kindOf code) ⌝ }
+{
+    match startcode::kind_of(code) {
+        UnitKind::Is(kind) => after_kind(scope, kind),
+        UnitKind::Unknown => scope,
+    }
+}
+
+// The rows of a stream that is good, into words that suffice. Nothing is judged again: a row takes the unit's code, its end and its
+// scope.
 fn write_rows(stream: &[u8], rows: &mut [u32])
     requires { ⌜ Writable (now stream) (now rows) ⌝ }
     ensures { λ r. ⌜ now (rows .exit) ≡ wordsAfter (said (rowsFrom 0) (walkOfAny (now (stream .entry)))) (now (rows .entry)) ⌝ }
 {
-    let mut state = State::Start;
+    let mut scope = Scope::Picture;
     let mut at: usize = 0;
     let mut i: usize = 0;
     while at < stream.len() {
-        match units::unit_at(stream, state, at) {
-            UnitAnswer::Next(next, end, length) => {
-                let code = stream[at + 3];
-                put_row(rows, i, code, at, length);
-                state = next;
-                at = end;
-                i += 1;
-            }
-            UnitAnswer::Refused(_) => {
-                return;
-            }
-            UnitAnswer::NoUnit => {
-                return;
-            }
-        }
+        let code = stream[at + 3];
+        let end = startcode::next_prefix(stream, at + 3);
+        let from = at + 4;
+        let length = units::row_length(scope, code, &stream[from..end]);
+        put_row(rows, i, code, at, length);
+        scope = scope_after(scope, code);
+        at = end;
+        i += 1;
     }
 }
 

@@ -2,12 +2,12 @@
 use Prim.Native.Nat.{ℕ, suc, _≤_, _<_, _+_, _-_}
 use mathlib.Core.Path.{_≡_, refl, sym, _∙_, ap}
 use mathlib.Core.List.{List, [], _∷_, _++_}
-use mathlib.Core.Bool.{true, false, cond}
+use mathlib.Core.Bool.{Bool, true, false, cond}
 use lib.ListN.{length, getD, take}
 use lib.Seq.{take-suc, take-length}
 use borrow.Author.Tests.{ne-eqb, lt-ltb, le-ltb, le-leb, lt-leb}
 use native.Mathlib.Omega.{arith}
-use Rattle.answers.specs.Answers.{done}
+use Rattle.answers.specs.Answers.{Outcome, done, refused}
 use Rattle.bits.proofs.TestLaws.{contrary}
 use Rattle.bodies.specs.Extensions.{numbered}
 use Rattle.layout.specs.Reader.{allZero}
@@ -60,25 +60,35 @@ trim-all b = ap trimmed (sym (take-length b))
 -- ── a row's length ──
 
 -- where a unit stands matters for an extension alone
-place-same : (q : State) (k : Kind) (body : List ℕ) → wholeBody (done k) (extensionScope q) body ≡ wholeBody (done k) (placeOf q (done k)) body
-place-same Start k body = refl
-place-same (Head rule d) kind.Slice body = refl
-place-same (Head rule d) kind.SequenceHeader body = refl
-place-same (Head rule d) kind.SequenceEnd body = refl
-place-same (Head rule d) kind.UserData body = refl
-place-same (Head rule d) kind.IPicture body = refl
-place-same (Head rule d) kind.Extension body = refl
-place-same (Head rule d) kind.PBPicture body = refl
-place-same (Head rule d) kind.EditCode body = refl
-place-same (InPicture rule) k body = refl
-place-same (Slices rule n) k body = refl
-place-same Ended k body = refl
-place-same Closed k body = refl
+place-same : (q : State) (o : Outcome Kind) (body : List ℕ) → wholeBody o (extensionScope q) body ≡ wholeBody o (placeOf q o) body
+place-same Start o body = refl
+place-same (Head rule d) (done kind.Slice) body = refl
+place-same (Head rule d) (done kind.SequenceHeader) body = refl
+place-same (Head rule d) (done kind.SequenceEnd) body = refl
+place-same (Head rule d) (done kind.UserData) body = refl
+place-same (Head rule d) (done kind.IPicture) body = refl
+place-same (Head rule d) (done kind.Extension) body = refl
+place-same (Head rule d) (done kind.PBPicture) body = refl
+place-same (Head rule d) (done kind.EditCode) body = refl
+place-same (Head rule d) (refused n carried) body = refl
+place-same (InPicture rule) o body = refl
+place-same (Slices rule n) o body = refl
+place-same Ended o body = refl
+place-same Closed o body = refl
+
+pub scope-same : (q : State) (u : StreamUnit) → rowLength (placed (extensionScope q) u) ≡ rowLength (placed (scopeIn q u) u)
+unfolding rowLength
+scope-same q u = ap (λ (t : Bool). length (cond t (u .body) (trimmed (u .body)))) (place-same q (kindOf (u .code)) (u .body))
+
+-- by the kind
+pub length-by : (p : Scope) (o : Outcome Kind) (u : StreamUnit) → kindOf (u .code) ≡ o →
+    length (cond (wholeBody o p (u .body)) (u .body) (trimmed (u .body))) ≡ rowLength (placed p u)
+unfolding rowLength
+length-by p o u e = ap (λ (x : Outcome Kind). length (cond (wholeBody x p (u .body)) (u .body) (trimmed (u .body)))) (sym e)
 
 pub length-same : (q : State) (k : Kind) (u : StreamUnit) → kindOf (u .code) ≡ done k →
     length (cond (wholeBody (done k) (extensionScope q) (u .body)) (u .body) (trimmed (u .body))) ≡ rowLength (placed (scopeIn q u) u)
-unfolding rowLength
-length-same q k u e = rw (e, place-same q k (u .body))
+length-same q k u e = length-by (extensionScope q) (done k) u e ∙ scope-same q u
 
 -- a kind that is neither user data nor an extension
 pub not-whole : (k : Kind) (p : Scope) (body : List ℕ) → sameKind k kind.UserData ≡ false → sameKind k kind.Extension ≡ false → wholeBody (done k) p body ≡ false

@@ -8,6 +8,8 @@ use lib.ListN
 use lib.ListN.{length, getD, drop, length-take, length-drop}
 use borrow.Author.Tests.{eqb-true, eqb-false}
 use native.Mathlib.Omega.{arith}
+use Rattle.answers.specs.Results.{good}
+use Rattle.answers.proofs.ResultLaws.{not-good}
 use Rattle.bits.proofs.TestLaws.{by-test}
 use Rattle.startcode.specs.Prefix.{begins, nextPrefix}
 use Rattle.bodies.specs.declared.Scope.{Scope}
@@ -125,3 +127,25 @@ what-is-left s q at b =
     by-test (begins (drop (at + 3) s))
     (λ b′. subst (Left s q at) (unit-overlap s q at b b′) (left-overlap s q at b b′))
     (λ b′. subst (Left s q at) (unit-is s q at b h b′) (by-step s q at b h b′ (step q (here s q at b h b′)) refl)))
+
+-- where the walk is good a unit stands and goes on
+pub record Stands (s : List ℕ) (q : State) (at : ℕ) : Type 0 where
+  pub next : State
+  pub goes-on : step q (unitBetween s at (nextPrefix s (at + 3))) ≡ go next
+  pub advanced : let u = unitBetween s at (nextPrefix s (at + 3)) in Advanced s q at next (nextPrefix s (at + 3)) (rowLength (placed (scopeIn q u) u))
+
+pub stands : (s : List ℕ) (q : State) (at : ℕ) (ms : List Placed) → begins (drop at s) ≡ true → left s q at ≡ good ms → Stands s q at
+stands s q at ms b g =
+    let fits = prefix-fits s at b in
+    by-test (eqb (at + 3) (length s))
+    (λ t. not-good (sym (left-cut s q at b (eqb-true (at + 3) (length s) t)) ∙ g))
+    (λ f.
+    let n = eqb-false (at + 3) (length s) f in
+    let h : at + 3 < length s = omega arith in
+    by-test (begins (drop (at + 3) s))
+    (λ b′. not-good (sym (left-overlap s q at b b′) ∙ g))
+    (λ b′. of-step h b′ (step q (here s q at b h b′)) refl))
+  where
+    of-step : (h : at + 3 < length s) (b′ : begins (drop (at + 3) s) ≡ false) (t : Step) → step q (unitBetween s at (nextPrefix s (at + 3))) ≡ t → Stands s q at
+    of-step h b′ (go q′) e = record { next = q′; goes-on = e; advanced = by-step s q at b h b′ (go q′) e }
+    of-step h b′ (stop why) e = not-good (sym (by-step s q at b h b′ (stop why) e) ∙ g)

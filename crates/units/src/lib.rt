@@ -11,7 +11,7 @@ ghost use mathlib.Core.Bool.{cond};
 ghost use Prim.Native.Nat.{_<_};
 ghost use lib.ListN.{length};
 ghost use Rattle.answers.specs.Answers.{done};
-ghost use Rattle.grammar.specs.Rows.{trimmed, wholeBody};
+ghost use Rattle.grammar.specs.Rows.{placed, trimmed, wholeBody, rowLength};
 ghost use Rattle.grammar.specs.Reader.{choose, table};
 ghost use Rattle.units.specs.Reader.{unitFrom, unitAt};
 ghost use Rattle.units.specs.Inside.{extensionScope};
@@ -137,13 +137,23 @@ fn trimmed_length(body: &[u8]) -> usize
 }
 
 // The body without its trailing zero bytes, or the whole body.
-fn row_length(scope: Scope, kind: Kind, body: &[u8]) -> usize
+fn length_in(scope: Scope, kind: Kind, body: &[u8]) -> usize
     ensures { λ r. ⌜ r ≡ length (cond (wholeBody (done kind) scope (now (body .entry))) (now (body .entry)) (trimmed (now (body .entry)))) ⌝ }
 {
     if is_whole(scope, kind, body) {
         return body.len();
     }
     trimmed_length(body)
+}
+
+// The length of the row of a unit with this code byte and body, which stands in a scope.
+pub fn row_length(scope: Scope, code: u8, body: &[u8]) -> usize
+    ensures { λ r. ⌜ r ≡ rowLength (placed scope (record { code = code; body = now (body .entry) })) ⌝ }
+{
+    match startcode::kind_of(code) {
+        UnitKind::Is(kind) => length_in(scope, kind, body),
+        UnitKind::Unknown => trimmed_length(body),
+    }
 }
 
 // ── one unit of a stream ──
@@ -156,7 +166,7 @@ fn unit_of(state: State, code: u8, body: &[u8], end: usize) -> UnitAnswer
         UnitKind::Is(kind) => {
             let scope = scope_in(state);
             match in_state(state, kind, code, body) {
-                Step::Go(next) => UnitAnswer::Next(next, end, row_length(scope, kind, body)),
+                Step::Go(next) => UnitAnswer::Next(next, end, length_in(scope, kind, body)),
                 Step::Stop(why) => UnitAnswer::Refused(why),
             }
         }

@@ -59,8 +59,8 @@ in-state-requires c κs = search needs
 enum-known-next : tie.Need-enum-known-next
 enum-known-next c = search needs
 
-row-length-requires : tie.Need-row-length-requires
-row-length-requires c κs = search needs
+length-in-requires : tie.Need-length-in-requires
+length-in-requires c κs = search needs
 
 enum-known-why : tie.Need-enum-known-why
 enum-known-why c = search needs
@@ -69,7 +69,7 @@ enum-told : tie.Need-enum-told
 enum-told c = search needs
 
 returns : tie.Need-returns
-returns c = let g = c .before .before .next .given in let t = c .before .before .before .before in let k = named t .kind .given .0 .0 in let b = u t .body in ap (λ (n : ℕ). answer.Next (g .0 .0) (start t .args .end) n) (c .row-length .ensures ∙ ap (λ (p : Scope). length (cond (wholeBody (done k) p b) b (trimmed b))) (t .before .scope-in .ensures) ∙ length-same (start t .args .state) k (u t) (is t)) ∙ answered t (g .1)
+returns c = let g = c .before .before .next .given in let t = c .before .before .before .before in let k = named t .kind .given .0 .0 in let b = u t .body in ap (λ (n : ℕ). answer.Next (g .0 .0) (start t .args .end) n) (c .length-in .ensures ∙ ap (λ (p : Scope). length (cond (wholeBody (done k) p b) b (trimmed b))) (t .before .scope-in .ensures) ∙ length-same (start t .args .state) k (u t) (is t)) ∙ answered t (g .1)
 
 returns-2 : tie.Need-returns-2
 returns-2 c = answered (c .before .before .before) (c .before .why .given .1)
@@ -87,7 +87,7 @@ unit-of-spec =
     scope-in-requires
     in-state-requires
     enum-known-next
-    row-length-requires
+    length-in-requires
     enum-known-why
     enum-told
     returns
