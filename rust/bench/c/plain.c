@@ -303,7 +303,6 @@ typedef struct {
     uint32_t status;
     state next;
     size_t end;
-    size_t length;
 } unit;
 
 static bool all_zero(const uint8_t *body, size_t length)
@@ -452,7 +451,7 @@ typedef size_t search(const uint8_t *stream, size_t n, size_t from);
 
 WITH_SEARCH unit unit_at(search next, const uint8_t *stream, size_t n, state s, size_t at)
 {
-    unit u = {DONE, s, 0, 0};
+    unit u = {DONE, s, 0};
     size_t code_at = at + 3;
     if (!prefix_at(stream, n, at))
         u.status = NO_CODE;
@@ -466,8 +465,6 @@ WITH_SEARCH unit unit_at(search next, const uint8_t *stream, size_t n, state s, 
     const uint8_t *body = stream + at + 4;
     size_t length = u.end - (at + 4);
     u.status = step_unit(&u.next, stream[code_at], body, length);
-    if (u.status == DONE)
-        u.length = row_length(s.where == HEAD, stream[code_at], body, length);
     return u;
 }
 
@@ -490,25 +487,8 @@ WITH_SEARCH answer check_units(search next, const uint8_t *stream, size_t n)
     return (answer){UNENDED, at, 0};
 }
 
+/* No body is read again: of what was checked only heads are to be known. */
 WITH_SEARCH void write_rows(search next, const uint8_t *stream, size_t n, uint32_t *rows)
-{
-    state s = {START, false, false, 0, 0};
-    size_t at = 0;
-    while (at < n) {
-        unit u = unit_at(next, stream, n, s, at);
-        if (u.status != DONE)
-            return;
-        rows[0] = stream[at + 3];
-        rows[1] = (uint32_t)at;
-        rows[2] = (uint32_t)u.length;
-        rows += 3;
-        s = u.next;
-        at = u.end;
-    }
-}
-
-/* The same rows with no body read again: of what was checked only heads are to be known. */
-WITH_SEARCH void write_rows_unread(search next, const uint8_t *stream, size_t n, uint32_t *rows)
 {
     bool head = false;
     size_t at = 0;
@@ -524,9 +504,7 @@ WITH_SEARCH void write_rows_unread(search next, const uint8_t *stream, size_t n,
     }
 }
 
-typedef void writer(search next, const uint8_t *stream, size_t n, uint32_t *rows);
-
-WITH_SEARCH answer file(search next, writer write, const uint8_t *stream, size_t n, uint32_t *rows, size_t words)
+WITH_SEARCH answer file(search next, const uint8_t *stream, size_t n, uint32_t *rows, size_t words)
 {
     if (LONGEST_STREAM < n)
         return (answer){TOO_LONG, 0, 0};
@@ -535,23 +513,18 @@ WITH_SEARCH answer file(search next, writer write, const uint8_t *stream, size_t
         return a;
     if (words / 3 < a.count)
         return (answer){FULL, 0, 0};
-    write(next, stream, n, rows);
+    write_rows(next, stream, n, rows);
     return a;
 }
 
 answer plain_file(const uint8_t *stream, size_t length, uint32_t *rows, size_t words)
 {
-    return file(next_prefix, write_rows, stream, length, rows, words);
+    return file(next_prefix, stream, length, rows, words);
 }
 
 answer plain_file_by_three(const uint8_t *stream, size_t length, uint32_t *rows, size_t words)
 {
-    return file(next_by_three, write_rows, stream, length, rows, words);
-}
-
-answer plain_file_reading_once(const uint8_t *stream, size_t length, uint32_t *rows, size_t words)
-{
-    return file(next_by_three, write_rows_unread, stream, length, rows, words);
+    return file(next_by_three, stream, length, rows, words);
 }
 
 /* ── escape removal ── */

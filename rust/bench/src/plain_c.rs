@@ -9,7 +9,6 @@ extern "C" {
     fn plain_nanoseconds() -> u64;
     fn plain_file(stream: *const u8, length: usize, rows: *mut u32, words: usize) -> Answer;
     fn plain_file_by_three(stream: *const u8, length: usize, rows: *mut u32, words: usize) -> Answer;
-    fn plain_file_reading_once(stream: *const u8, length: usize, rows: *mut u32, words: usize) -> Answer;
     fn plain_next(stream: *const u8, length: usize, from: usize) -> usize;
     fn plain_next_bytewise(stream: *const u8, length: usize, from: usize) -> usize;
     fn plain_next_by_three(stream: *const u8, length: usize, from: usize) -> usize;
@@ -45,10 +44,6 @@ pub fn file(stream: &[u8], rows: &mut [u32]) -> Answer {
 
 pub fn file_by_three(stream: &[u8], rows: &mut [u32]) -> Answer {
     file_by(plain_file_by_three, stream, rows)
-}
-
-pub fn file_reading_once(stream: &[u8], rows: &mut [u32]) -> Answer {
-    file_by(plain_file_reading_once, stream, rows)
 }
 
 fn next_by(f: Next, stream: &[u8], from: usize) -> usize {

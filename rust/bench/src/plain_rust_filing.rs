@@ -276,16 +276,15 @@ fn step_unit(state: State, code: u8, body: &[u8]) -> Result<State, u32> {
 }
 
 /// The body of a good unit: the whole of user data and opaque extensions.
-fn row_length(state: State, code: u8, body: &[u8]) -> usize {
-    let in_head = matches!(state, State::Head(..));
+fn row_length(in_head: bool, code: u8, body: &[u8]) -> usize {
     if code == 0xB2 || code == 0xB5 && is_opaque(body, in_head) {
         return body.len();
     }
     body.iter().rposition(|&byte| byte != 0).map_or(0, |last| last + 1)
 }
 
-/// The state after a unit, where it ends and its row's length.
-fn unit_at(stream: &[u8], state: State, at: usize) -> Result<(State, usize, usize), u32> {
+/// The state after a unit, and where it ends.
+fn unit_at(stream: &[u8], state: State, at: usize) -> Result<(State, usize), u32> {
     let rest = &stream[at..];
     if !rest.starts_with(&[0, 0, 1]) {
         return Err(status::NO_CODE);
@@ -295,9 +294,7 @@ fn unit_at(stream: &[u8], state: State, at: usize) -> Result<(State, usize, usiz
         return Err(status::OVERLAP);
     }
     let end = next(stream, at + 3);
-    let body = &stream[at + 4..end];
-    let after = step_unit(state, code, body)?;
-    Ok((after, end, row_length(state, code, body)))
+    step_unit(state, code, &stream[at + 4..end]).map(|after| (after, end))
 }
 
 // ── filing ──
@@ -312,7 +309,7 @@ fn check(stream: &[u8]) -> Result<usize, (u32, usize)> {
     }
     let (mut state, mut at, mut units) = (State::Start, 0, 0);
     while at < stream.len() {
-        let (after, end, _) = unit_at(stream, state, at).map_err(|why| (why, at))?;
+        let (after, end) = unit_at(stream, state, at).map_err(|why| (why, at))?;
         state = after;
         at = end;
         units += 1;
@@ -323,14 +320,16 @@ fn check(stream: &[u8]) -> Result<usize, (u32, usize)> {
     }
 }
 
+/// No body is read again: of what was checked only heads are to be known.
 fn write_rows(stream: &[u8], rows: &mut [u32]) {
-    let (mut state, mut at) = (State::Start, 0);
+    let (mut in_head, mut at) = (false, 0);
     for row in rows.chunks_exact_mut(3) {
-        if let Ok((after, end, length)) = unit_at(stream, state, at) {
-            row.copy_from_slice(&[u32::from(stream[at + 3]), at as u32, length as u32]);
-            state = after;
-            at = end;
-        }
+        let code = stream[at + 3];
+        let end = next(stream, at + 3);
+        let length = row_length(in_head, code, &stream[at + 4..end]);
+        row.copy_from_slice(&[u32::from(code), at as u32, length as u32]);
+        in_head = code == 0xB0 || in_head && code != 0xB3;
+        at = end;
     }
 }
 

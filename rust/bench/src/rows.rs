@@ -5,7 +5,6 @@ use crate::measure::{measure, Measured, Rival, Work, LIBRARY, SAME};
 use crate::{plain_c, plain_rust};
 
 const BY_THREE: &str = "plain C, steps of three";
-const READ_ONCE: &str = "plain C, by three, read once";
 const BIT_BY_BIT: &str = "plain C, bit by bit";
 const BYTE_WISE: &str = "plain C, byte-wise";
 const RUST: &str = "plain Rust";
@@ -25,11 +24,10 @@ type Remove = fn(&[u8], &mut [u8]) -> Answer;
 
 // ── filing ──
 
-const FILE: [(&str, File); 5] = [
+const FILE: [(&str, File); 4] = [
     (LIBRARY, library::file),
     (SAME, plain_c::file),
     (BY_THREE, plain_c::file_by_three),
-    (READ_ONCE, plain_c::file_reading_once),
     (RUST, plain_rust::file),
 ];
 
