@@ -189,7 +189,7 @@ def declared_in_c():
 
 
 def declared_in_rust():
-    text = re.sub(r"//[^\n]*", "", read("rust/avsplus/src/raw.rs"))
+    text = re.sub(r"//[^\n]*", "", read("rust/avsplus-sys/src/lib.rs"))
     for name, parameters, result in re.findall(r"pub fn (avsplus_\w+)\(([^)]*)\) -> (\w+);", text):
         yield name, (",".join(p.split(": ", 1)[1] for p in split(parameters)), result)
     for name, body in re.findall(r"#\[repr\(C\)\]\s*(?:#\[derive[^\n]*\n)?\s*pub struct (\w+) \{(.*?)\n\}", text, re.S):

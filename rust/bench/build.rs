@@ -1,4 +1,4 @@
-//! Compiles the plain C rivals and links them; the crate `avsplus` links the library.
+//! Compiles the plain C rivals and links them; the crate `avsplus-sys` links the library.
 use std::env;
 use std::path::{Path, PathBuf};
 use std::process::{exit, Command};

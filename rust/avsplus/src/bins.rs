@@ -1,133 +1,202 @@
 //! Bins: the arithmetic decoder. A refusal leaves states and contexts as they were.
 
-use crate::calls;
-use crate::raw::PlainBin;
-pub use crate::raw::{Context, State};
-use crate::status::{check, Reason};
+use avsplus_sys as sys;
 
-impl Context {
-    /// A context that has seen no bin.
-    ///
-    /// ```
-    /// let context = avsplus::Context::fresh();
-    /// assert_eq!((context.mps, context.lg, context.cycno), (0, 1023, 0));
-    /// ```
-    pub fn fresh() -> Context {
-        calls::fresh_context()
+use crate::calls;
+use crate::payload::Payload;
+use crate::refused::{done, Reason, Refused};
+
+/// Where a bin decoder stands in its payload.
+#[derive(Debug, Clone, Copy, PartialEq, Eq, Hash)]
+pub struct State {
+    /// rS, at most `vs`.
+    pub rs: u32,
+    /// rT, at most 255.
+    pub rt: u32,
+    /// valueS, at most 524,288.
+    pub vs: u32,
+    /// valueT, at most 255.
+    pub vt: u32,
+    /// The next bit.
+    pub place: usize,
+}
+
+impl State {
+    fn to_sys(self) -> sys::State {
+        let State { rs, rt, vs, vt, place } = self;
+        sys::State { rs, rt, vs, vt, place }
+    }
+
+    fn from_sys(state: sys::State) -> State {
+        let sys::State { rs, rt, vs, vt, place } = state;
+        State { rs, rt, vs, vt, place }
     }
 }
 
-/// Starts on a payload: the first `bits` bits of `bytes`, or all where there are fewer.
-///
-/// ```
-/// use avsplus::{decode, start, Context, Reason};
-///
-/// let payload = [0x80, 0x00];
-/// let mut state = start(&payload, 16)?;
-/// let (before, mut context) = (state, Context::fresh());
-/// assert_eq!(decode(&payload, 16, &mut state, &mut context), Err(Reason::PayloadOut));
-/// assert_eq!((state, context), (before, Context::fresh()));
-/// # Ok::<(), Reason>(())
-/// ```
-pub fn start(bytes: &[u8], bits: usize) -> Result<State, Reason> {
-    let nothing = State {
-        rs: 0,
-        rt: 0,
-        vs: 0,
-        vt: 0,
-        place: 0,
+/// What a context has learned of its bins.
+#[derive(Debug, Clone, Copy, PartialEq, Eq, Hash)]
+pub struct Context {
+    /// The more probable bin, 0 or 1.
+    pub mps: u32,
+    /// How probable the other bin is, 4 to 1023.
+    pub lg: u32,
+    /// How fast it learns, 0 to 3.
+    pub cycno: u32,
+}
+
+impl Context {
+    /// A context that has seen no bin.
+    pub const FRESH: Context = Context {
+        mps: 0,
+        lg: 1023,
+        cycno: 0,
     };
-    let started = calls::start(bytes, bits, nothing);
-    check(started.status)?;
-    Ok(started.state)
+
+    fn to_sys(self) -> sys::Context {
+        let Context { mps, lg, cycno } = self;
+        sys::Context { mps, lg, cycno }
+    }
+
+    fn from_sys(context: sys::Context) -> Context {
+        let sys::Context { mps, lg, cycno } = context;
+        Context { mps, lg, cycno }
+    }
 }
 
-/// A bin by one context.
-///
-/// ```
-/// use avsplus::{decode, start, Context, State};
-///
-/// let payload = [0x80, 0x40, 0x00];
-/// let mut state = start(&payload, 24)?;
-/// let mut context = Context::fresh();
-/// assert_eq!(decode(&payload, 24, &mut state, &mut context), Ok(true));
-/// assert_eq!(state, State { rs: 0, rt: 254, vs: 8, vt: 0, place: 18 });
-/// assert_eq!(context, Context { mps: 1, lg: 827, cycno: 1 });
-///
-/// let payload = [0x40, 0x00];
-/// let mut state = start(&payload, 16)?;
-/// let mut context = Context::fresh();
-/// let bins = [(); 3].map(|_| decode(&payload, 16, &mut state, &mut context));
-/// assert_eq!(bins, [Ok(false), Ok(false), Ok(true)]);
-/// assert_eq!((state.rt, state.vs, state.vt, state.place), (188, 0, 28, 12));
-/// assert_eq!((context.lg, context.cycno), (927, 2));
-/// # Ok::<(), avsplus::Reason>(())
-/// ```
-pub fn decode(bytes: &[u8], bits: usize, state: &mut State, context: &mut Context) -> Result<bool, Reason> {
-    let step = calls::decode(bytes, bits, *state, *context);
-    check(step.status)?;
-    *state = step.state;
-    *context = step.context;
-    Ok(step.bin != 0)
+impl Payload<'_> {
+    /// Starts the bin decoder on the payload.
+    ///
+    /// ```
+    /// use avsplus::{Context, Payload, Reason};
+    ///
+    /// let payload = Payload::whole(&[0x80, 0x00]);
+    /// let mut state = payload.start()?;
+    /// let (before, mut context) = (state, Context::FRESH);
+    /// assert_eq!(payload.decode(&mut state, &mut context), Err(Reason::PayloadOut.into()));
+    /// assert_eq!((state, context), (before, Context::FRESH));
+    /// # Ok::<(), avsplus::Refused>(())
+    /// ```
+    pub fn start(&self) -> Result<State, Refused> {
+        // It comes back where the payload is refused, and is not looked at.
+        let nothing = sys::State {
+            rs: 0,
+            rt: 0,
+            vs: 0,
+            vt: 0,
+            place: 0,
+        };
+        let started = calls::start(self.bytes(), self.bits(), nothing)?;
+        done(started.status)?;
+        Ok(State::from_sys(started.state))
+    }
+
+    /// A bin by one context.
+    ///
+    /// ```
+    /// use avsplus::{Context, Payload, State};
+    ///
+    /// let payload = Payload::whole(&[0x80, 0x40, 0x00]);
+    /// let (mut state, mut context) = (payload.start()?, Context::FRESH);
+    /// assert_eq!(payload.decode(&mut state, &mut context), Ok(true));
+    /// assert_eq!(state, State { rs: 0, rt: 254, vs: 8, vt: 0, place: 18 });
+    /// assert_eq!(context, Context { mps: 1, lg: 827, cycno: 1 });
+    ///
+    /// let payload = Payload::whole(&[0x40, 0x00]);
+    /// let (mut state, mut context) = (payload.start()?, Context::FRESH);
+    /// let bins = [(); 3].map(|_| payload.decode(&mut state, &mut context));
+    /// assert_eq!(bins, [Ok(false), Ok(false), Ok(true)]);
+    /// assert_eq!((state.rt, state.vs, state.vt, state.place), (188, 0, 28, 12));
+    /// assert_eq!((context.lg, context.cycno), (927, 2));
+    /// # Ok::<(), avsplus::Refused>(())
+    /// ```
+    pub fn decode(&self, state: &mut State, context: &mut Context) -> Result<bool, Refused> {
+        let step = calls::decode(self.bytes(), self.bits(), state.to_sys(), context.to_sys())?;
+        let bin = bin(step.status, step.bin)?;
+        *state = State::from_sys(step.state);
+        *context = Context::from_sys(step.context);
+        Ok(bin)
+    }
+
+    /// A bin by two contexts.
+    ///
+    /// ```
+    /// use avsplus::{Context, Payload};
+    ///
+    /// let payload = Payload::whole(&[0x80, 0x40, 0x00]);
+    /// let mut state = payload.start()?;
+    /// let (mut first, mut second) = (Context::FRESH, Context::FRESH);
+    /// // Two fresh contexts predict what one does.
+    /// assert_eq!(payload.decode_pair(&mut state, &mut first, &mut second), Ok(true));
+    /// assert_eq!(first, Context { mps: 1, lg: 827, cycno: 1 });
+    /// assert_eq!(second, first);
+    /// # Ok::<(), avsplus::Refused>(())
+    /// ```
+    pub fn decode_pair(&self, state: &mut State, first: &mut Context, second: &mut Context) -> Result<bool, Refused> {
+        let (a, b) = (first.to_sys(), second.to_sys());
+        let step = calls::decode_pair(self.bytes(), self.bits(), state.to_sys(), a, b)?;
+        let bin = bin(step.status, step.bin)?;
+        *state = State::from_sys(step.state);
+        *first = Context::from_sys(step.first);
+        *second = Context::from_sys(step.second);
+        Ok(bin)
+    }
+
+    /// A bypass bin.
+    ///
+    /// ```
+    /// let payload = avsplus::Payload::whole(&[0x80, 0x40, 0x00]);
+    /// let mut state = payload.start()?;
+    /// assert_eq!(payload.bypass(&mut state), Ok(true));
+    /// assert_eq!(state.place, 18);
+    /// # Ok::<(), avsplus::Refused>(())
+    /// ```
+    pub fn bypass(&self, state: &mut State) -> Result<bool, Refused> {
+        plain(calls::bypass(self.bytes(), self.bits(), state.to_sys())?, state)
+    }
+
+    /// A stuffing bin.
+    ///
+    /// ```
+    /// let payload = avsplus::Payload::whole(&[0x40, 0x00]);
+    /// let mut state = payload.start()?;
+    /// assert_eq!(payload.stuffing(&mut state), Ok(false));
+    /// assert_eq!((state.rs, state.rt), (0, 254));
+    /// # Ok::<(), avsplus::Refused>(())
+    /// ```
+    pub fn stuffing(&self, state: &mut State) -> Result<bool, Refused> {
+        plain(calls::stuffing(self.bytes(), self.bits(), state.to_sys())?, state)
+    }
 }
 
-/// A bin by two contexts.
-///
-/// ```
-/// use avsplus::{decode_pair, start, Context};
-///
-/// let payload = [0x80, 0x40, 0x00];
-/// let mut state = start(&payload, 24)?;
-/// let (mut first, mut second) = (Context::fresh(), Context::fresh());
-/// // Two fresh contexts predict what one does.
-/// assert_eq!(decode_pair(&payload, 24, &mut state, &mut first, &mut second), Ok(true));
-/// assert_eq!(first, Context { mps: 1, lg: 827, cycno: 1 });
-/// assert_eq!(second, first);
-/// # Ok::<(), avsplus::Reason>(())
-/// ```
-pub fn decode_pair(
-    bytes: &[u8],
-    bits: usize,
-    state: &mut State,
-    first: &mut Context,
-    second: &mut Context,
-) -> Result<bool, Reason> {
-    let step = calls::decode_pair(bytes, bits, *state, *first, *second);
-    check(step.status)?;
-    *state = step.state;
-    *first = step.first;
-    *second = step.second;
-    Ok(step.bin != 0)
+fn plain(step: sys::PlainBin, state: &mut State) -> Result<bool, Refused> {
+    let bin = bin(step.status, step.bin)?;
+    *state = State::from_sys(step.state);
+    Ok(bin)
 }
 
-/// A bypass bin.
-///
-/// ```
-/// let payload = [0x80, 0x40, 0x00];
-/// let mut state = avsplus::start(&payload, 24)?;
-/// assert_eq!(avsplus::bypass(&payload, 24, &mut state), Ok(true));
-/// assert_eq!(state.place, 18);
-/// # Ok::<(), avsplus::Reason>(())
-/// ```
-pub fn bypass(bytes: &[u8], bits: usize, state: &mut State) -> Result<bool, Reason> {
-    plain(calls::bypass(bytes, bits, *state), state)
+/// A decoded bin: nothing but 0 and 1 is one.
+fn bin(status: u32, bin: u32) -> Result<bool, Refused> {
+    done(status)?;
+    match bin {
+        0 => Ok(false),
+        1 => Ok(true),
+        _ => Err(Reason::Malformed.into()),
+    }
 }
 
-/// A stuffing bin.
-///
-/// ```
-/// let payload = [0x40, 0x00];
-/// let mut state = avsplus::start(&payload, 16)?;
-/// assert_eq!(avsplus::stuffing(&payload, 16, &mut state), Ok(false));
-/// assert_eq!((state.rs, state.rt), (0, 254));
-/// # Ok::<(), avsplus::Reason>(())
-/// ```
-pub fn stuffing(bytes: &[u8], bits: usize, state: &mut State) -> Result<bool, Reason> {
-    plain(calls::stuffing(bytes, bits, *state), state)
-}
+#[cfg(test)]
+mod tests {
+    use super::*;
 
-fn plain(step: PlainBin, state: &mut State) -> Result<bool, Reason> {
-    check(step.status)?;
-    *state = step.state;
-    Ok(step.bin != 0)
+    #[test]
+    fn a_fresh_context_is_the_librarys() {
+        assert_eq!(calls::fresh_context().map(Context::from_sys), Ok(Context::FRESH));
+    }
+
+    #[test]
+    fn a_mark_is_no_bin() {
+        assert_eq!((bin(0, 0), bin(0, 1)), (Ok(false), Ok(true)));
+        assert_eq!(bin(0, sys::AVSPLUS_NO_BIN), Err(Reason::Malformed.into()));
+        assert_eq!(bin(14, sys::AVSPLUS_NO_BIN), Err(Reason::PayloadOut.into()));
+    }
 }

@@ -2,9 +2,10 @@
 
 use std::fmt;
 
+use avsplus_sys::{Answer, AVSPLUS_EXTENSION_WITH_COLOUR, AVSPLUS_HEADER_NUMBERS, AVSPLUS_RATIO_NUMBERS};
+
 use crate::calls;
-use crate::raw::{Answer, AVSPLUS_EXTENSION_WITH_COLOUR, AVSPLUS_HEADER_NUMBERS, AVSPLUS_RATIO_NUMBERS};
-use crate::status::{check, Reason};
+use crate::refused::{done, Reason, Refused};
 
 /// A fraction.
 #[derive(Debug, Clone, Copy, PartialEq, Eq, Hash)]
@@ -21,7 +22,25 @@ impl fmt::Display for Ratio {
     }
 }
 
-/// The record of a sequence header.
+/// What an aspect says of the display.
+#[derive(Debug, Clone, Copy, PartialEq, Eq, Hash)]
+pub enum DisplayRatio {
+    /// Samples are square, so that the sizes say it. Aspect 1.
+    SquareSamples,
+    /// The display's ratio. Aspects 2 to 4.
+    Ratio(Ratio),
+}
+
+impl fmt::Display for DisplayRatio {
+    fn fmt(&self, f: &mut fmt::Formatter<'_>) -> fmt::Result {
+        match self {
+            DisplayRatio::SquareSamples => f.write_str("square samples"),
+            DisplayRatio::Ratio(ratio) => ratio.fmt(f),
+        }
+    }
+}
+
+/// The record of a sequence header. The last four fields are worked out from the others.
 #[derive(Debug, Clone, Copy, PartialEq, Eq, Hash)]
 pub struct SequenceHeader {
     /// Profile number, recorded and not judged.
@@ -38,11 +57,11 @@ pub struct SequenceHeader {
     pub chroma_format: u32,
     /// Sample precision: 1, eight bits.
     pub precision: u32,
-    /// Aspect, 1 to 4: see [`display_ratio`].
+    /// Aspect, 1 to 4.
     pub aspect: u32,
-    /// Frame rate code, 1 to 8: see [`frame_rate`].
+    /// Frame rate code, 1 to 8.
     pub frame_rate_code: u32,
-    /// Bit rate, put together from its two parts.
+    /// Bit rate, put together from its two parts: high * 262,144 + low.
     pub bit_rate: u32,
     /// Whether the sequence is coded for low delay.
     pub low_delay: bool,
@@ -52,26 +71,25 @@ pub struct SequenceHeader {
     pub macroblock_columns: u32,
     /// Macroblocks down.
     pub macroblock_rows: u32,
+    /// Frames a second, by the frame rate code.
+    pub frame_rate: Ratio,
+    /// What the aspect says.
+    pub display_ratio: DisplayRatio,
 }
 
 impl SequenceHeader {
-    /// The frame rate its code stands for.
-    pub fn frame_rate(&self) -> Option<Ratio> {
-        frame_rate(self.frame_rate_code)
-    }
-
-    /// The display ratio its aspect stands for: none for square samples.
-    pub fn display_ratio(&self) -> Option<Ratio> {
-        display_ratio(self.aspect)
-    }
-
-    /// None for another count of numbers.
-    pub(crate) fn from_numbers(numbers: &[u64]) -> Option<SequenceHeader> {
-        let numbers: [u64; AVSPLUS_HEADER_NUMBERS] = numbers.try_into().ok()?;
-        let [profile, level, progressive, horizontal_size, vertical_size, chroma_format, precision, rest @ ..] =
-            numbers.map(word);
+    /// Of its numbers and of what its codes stand for. MALFORMED for another count of numbers, and for codes that a good header
+    /// has not.
+    pub(crate) fn from_numbers(numbers: &[u64]) -> Result<SequenceHeader, Refused> {
+        let numbers: [u32; AVSPLUS_HEADER_NUMBERS] = words(numbers)?;
+        let [profile, level, progressive, horizontal_size, vertical_size, chroma_format, precision, rest @ ..] = numbers;
         let [aspect, frame_rate_code, bit_rate, low_delay, buffer_size, macroblock_columns, macroblock_rows] = rest;
-        Some(SequenceHeader {
+        let display_ratio = match (aspect, display_ratio(aspect)?) {
+            (_, Some(ratio)) => DisplayRatio::Ratio(ratio),
+            (1, None) => DisplayRatio::SquareSamples,
+            _ => return Err(Reason::Malformed.into()),
+        };
+        Ok(SequenceHeader {
             profile,
             level,
             progressive: progressive != 0,
@@ -86,6 +104,8 @@ impl SequenceHeader {
             buffer_size,
             macroblock_columns,
             macroblock_rows,
+            frame_rate: frame_rate(frame_rate_code)?.ok_or(Reason::Malformed)?,
+            display_ratio,
         })
     }
 }
@@ -119,22 +139,22 @@ pub struct DisplayExtension {
 }
 
 impl DisplayExtension {
-    /// Of its numbers alone, or with those of its colour after them; none for another count.
-    pub(crate) fn from_numbers(numbers: &[u64]) -> Option<DisplayExtension> {
-        let (display, colour) = match *numbers {
-            [format, range, width, height, stereo] => ([format, range, width, height, stereo], None),
-            [format, range, width, height, stereo, primaries, transfer, matrix] => {
-                let colour = Colour {
-                    primaries: word(primaries),
-                    transfer: word(transfer),
-                    matrix: word(matrix),
-                };
-                ([format, range, width, height, stereo], Some(colour))
+    /// Of its numbers alone, or with those of its colour after them; MALFORMED for another count.
+    pub(crate) fn from_numbers(numbers: &[u64]) -> Result<DisplayExtension, Refused> {
+        let (display, colour) = numbers.split_at(numbers.len().min(5));
+        let [format, range, width, height, stereo] = words(display)?;
+        let colour = match colour {
+            [] => None,
+            given => {
+                let [primaries, transfer, matrix] = words(given)?;
+                Some(Colour {
+                    primaries,
+                    transfer,
+                    matrix,
+                })
             }
-            _ => return None,
         };
-        let [format, range, width, height, stereo] = display.map(word);
-        Some(DisplayExtension {
+        Ok(DisplayExtension {
             format,
             range,
             colour,
@@ -154,7 +174,7 @@ pub struct CopyrightExtension {
     pub owner: u32,
     /// Whether this is the original.
     pub original: bool,
-    /// The copyright number, put together from its three parts.
+    /// The copyright number, put together from its three parts: one * 2^44 + two * 2^22 + three.
     pub number: u64,
 }
 
@@ -170,19 +190,44 @@ pub enum Extension {
 }
 
 impl Extension {
-    /// Of its numbers, whose count says which it is; none for a count of no extension.
-    fn from_numbers(numbers: &[u64]) -> Option<Extension> {
+    /// Its number, which the first four bits of the body say: 2 for a display extension, 4 for a copyright extension.
+    pub fn number(&self) -> u8 {
+        match self {
+            Extension::Display(_) => 2,
+            Extension::Copyright(_) => 4,
+            Extension::Opaque(number) => *number,
+        }
+    }
+
+    /// Of its numbers, whose count says which it is; MALFORMED for a count of no extension.
+    fn from_numbers(numbers: &[u64]) -> Result<Extension, Refused> {
         match *numbers {
-            [] => None,
-            // A number has four bits.
-            [number] => Some(Extension::Opaque(number as u8)),
-            [_, flag, owner, original, number] => Some(Extension::Copyright(CopyrightExtension {
-                flag: flag != 0,
-                owner: word(owner),
-                original: original != 0,
-                number,
-            })),
+            [number] => {
+                let number = u8::try_from(number).map_err(|_| Reason::Malformed)?;
+                Ok(Extension::Opaque(number))
+            }
+            [_, flag, owner, original, number] => {
+                let [flag, owner, original] = words(&[flag, owner, original])?;
+                Ok(Extension::Copyright(CopyrightExtension {
+                    flag: flag != 0,
+                    owner,
+                    original: original != 0,
+                    number,
+                }))
+            }
             [_, ref display @ ..] => DisplayExtension::from_numbers(display).map(Extension::Display),
+            [] => Err(Reason::Malformed.into()),
+        }
+    }
+}
+
+impl fmt::Display for Extension {
+    /// Which one it is, such as "display extension" or "extension 7, opaque".
+    fn fmt(&self, f: &mut fmt::Formatter<'_>) -> fmt::Result {
+        match self {
+            Extension::Display(_) => f.pad("display extension"),
+            Extension::Copyright(_) => f.pad("copyright extension"),
+            Extension::Opaque(number) => f.pad(&format!("extension {}, opaque", number)),
         }
     }
 }
@@ -199,21 +244,22 @@ pub enum Scope {
 /// The frame rate of a code: none outside 1 to 8.
 ///
 /// ```
-/// let rate = avsplus::frame_rate(4).unwrap();
-/// assert_eq!(rate.to_string(), "30000/1001");
-/// assert_eq!(avsplus::frame_rate(9), None);
+/// assert_eq!(avsplus::frame_rate(4)?.unwrap().to_string(), "30000/1001");
+/// assert_eq!(avsplus::frame_rate(9)?, None);
+/// # Ok::<(), avsplus::Refused>(())
 /// ```
-pub fn frame_rate(code: u32) -> Option<Ratio> {
+pub fn frame_rate(code: u32) -> Result<Option<Ratio>, Refused> {
     ratio(|numbers| calls::frame_rate(code, numbers))
 }
 
-/// The display ratio of an aspect: none for square samples, and for what is no aspect.
+/// The display ratio of an aspect: none for 1, which says square samples, and for what is no aspect.
 ///
 /// ```
-/// assert_eq!(avsplus::display_ratio(3).unwrap().to_string(), "16/9");
-/// assert_eq!(avsplus::display_ratio(1), None);
+/// assert_eq!(avsplus::display_ratio(3)?.unwrap().to_string(), "16/9");
+/// assert_eq!(avsplus::display_ratio(1)?, None);
+/// # Ok::<(), avsplus::Refused>(())
 /// ```
-pub fn display_ratio(aspect: u32) -> Option<Ratio> {
+pub fn display_ratio(aspect: u32) -> Result<Option<Ratio>, Refused> {
     ratio(|numbers| calls::display_ratio(aspect, numbers))
 }
 
@@ -226,12 +272,13 @@ pub fn display_ratio(aspect: u32) -> Option<Ratio> {
 /// let header = avsplus::sequence_header(&body)?;
 /// assert_eq!((header.horizontal_size, header.vertical_size, header.bit_rate), (1920, 1080, 20_000));
 /// assert_eq!((header.macroblock_columns, header.macroblock_rows), (120, 68));
+/// assert_eq!((header.frame_rate.to_string(), header.display_ratio.to_string()), ("25/1".into(), "16/9".into()));
 ///
 /// body[14] = 0x00;
-/// assert_eq!(avsplus::sequence_header(&body), Err(Reason::Stuffing));
-/// # Ok::<(), Reason>(())
+/// assert_eq!(avsplus::sequence_header(&body), Err(Reason::Stuffing.into()));
+/// # Ok::<(), avsplus::Refused>(())
 /// ```
-pub fn sequence_header(body: &[u8]) -> Result<SequenceHeader, Reason> {
+pub fn sequence_header(body: &[u8]) -> Result<SequenceHeader, Refused> {
     let call = |numbers: &mut [u64]| calls::sequence_header(body, numbers);
     read(&mut [0; AVSPLUS_HEADER_NUMBERS], call, SequenceHeader::from_numbers)
 }
@@ -251,40 +298,47 @@ pub fn sequence_header(body: &[u8]) -> Result<SequenceHeader, Reason> {
 ///     other => panic!("{:?}", other),
 /// }
 /// assert_eq!(avsplus::extension(&body, Scope::Picture)?, Extension::Opaque(2));
-/// assert_eq!(avsplus::extension(&[], Scope::Picture), Err(Reason::Short));
-/// # Ok::<(), Reason>(())
+/// assert_eq!(avsplus::extension(&[], Scope::Picture), Err(Reason::Short.into()));
+/// # Ok::<(), avsplus::Refused>(())
 /// ```
-pub fn extension(body: &[u8], scope: Scope) -> Result<Extension, Reason> {
+pub fn extension(body: &[u8], scope: Scope) -> Result<Extension, Refused> {
     let call = |numbers: &mut [u64]| calls::extension(body, scope == Scope::Head, numbers);
     read(&mut [0; AVSPLUS_EXTENSION_WITH_COLOUR], call, Extension::from_numbers)
 }
 
-/// A number of at most 32 bits: all that bodies hold are, but the copyright number.
-fn word(number: u64) -> u32 {
-    number as u32
+/// So many numbers of at most 32 bits, as all are that bodies hold but the copyright number.
+fn words<const N: usize>(numbers: &[u64]) -> Result<[u32; N], Refused> {
+    let mut words = [0; N];
+    if numbers.len() != N {
+        return Err(Reason::Malformed.into());
+    }
+    for (word, &number) in words.iter_mut().zip(numbers) {
+        *word = u32::try_from(number).map_err(|_| Reason::Malformed)?;
+    }
+    Ok(words)
 }
 
 /// Lends numbers to a call and makes a record of those that it hands over.
 fn read<T>(
     numbers: &mut [u64],
-    call: impl FnOnce(&mut [u64]) -> Answer,
-    record: impl FnOnce(&[u64]) -> Option<T>,
-) -> Result<T, Reason> {
-    let answer = call(numbers);
-    check(answer.status)?;
-    numbers.get(..answer.count).and_then(record).ok_or(Reason::Unexpected)
+    call: impl FnOnce(&mut [u64]) -> Result<Answer, Refused>,
+    record: impl FnOnce(&[u64]) -> Result<T, Refused>,
+) -> Result<T, Refused> {
+    let answer = call(numbers)?;
+    done(answer.status)?;
+    record(numbers.get(..answer.count).ok_or(Reason::Malformed)?)
 }
 
 /// A ratio, where the call hands one over.
-fn ratio(call: impl FnOnce(&mut [u64]) -> Answer) -> Option<Ratio> {
-    let record = |numbers: &[u64]| match *numbers {
-        [numerator, denominator] => Some(Ratio {
-            numerator: word(numerator),
-            denominator: word(denominator),
-        }),
-        _ => None,
+fn ratio(call: impl FnOnce(&mut [u64]) -> Result<Answer, Refused>) -> Result<Option<Ratio>, Refused> {
+    let record = |numbers: &[u64]| match numbers {
+        [] => Ok(None),
+        given => {
+            let [numerator, denominator] = words(given)?;
+            Ok(Some(Ratio { numerator, denominator }))
+        }
     };
-    read(&mut [0; AVSPLUS_RATIO_NUMBERS], call, record).ok()
+    read(&mut [0; AVSPLUS_RATIO_NUMBERS], call, record)
 }
 
 #[cfg(test)]
@@ -298,21 +352,53 @@ mod tests {
 
     #[test]
     fn other_counts_are_no_records() {
-        assert_eq!(counts(|n| SequenceHeader::from_numbers(n).is_some()), [14]);
-        assert_eq!(counts(|n| DisplayExtension::from_numbers(n).is_some()), [5, 8]);
-        assert_eq!(counts(|n| Extension::from_numbers(n).is_some()), [1, 5, 6, 9]);
+        assert_eq!(counts(|n| SequenceHeader::from_numbers(n).is_ok()), [14]);
+        assert_eq!(counts(|n| DisplayExtension::from_numbers(n).is_ok()), [5, 8]);
+        assert_eq!(counts(|n| Extension::from_numbers(n).is_ok()), [1, 5, 6, 9]);
     }
 
     #[test]
-    fn an_unexpected_count_is_an_error() {
+    fn numbers_that_do_not_fit_are_no_record() {
+        let wide = u64::from(u32::MAX) + 1;
+        assert_eq!(words(&[1, wide]), Err::<[u32; 2], _>(Reason::Malformed.into()));
+        assert_eq!(Extension::from_numbers(&[256]), Err(Reason::Malformed.into()));
+        let mut header = [1; 14];
+        header[8] = 9;
+        assert_eq!(SequenceHeader::from_numbers(&header), Err(Reason::Malformed.into()));
+    }
+
+    #[test]
+    fn an_answer_of_no_form_is_an_error() {
         for count in [0, 2, 3, usize::MAX] {
             let answer = Answer {
                 status: 0,
                 offset: 0,
                 count,
             };
-            let read = read(&mut [0; 2], |_| answer, |numbers| numbers.get(1).copied());
-            assert_eq!(read, if count == 2 { Ok(0) } else { Err(Reason::Unexpected) });
+            let read = read(&mut [0; 2], |_| Ok(answer), words::<2>);
+            let expected = if count == 2 {
+                Ok([0, 0])
+            } else {
+                Err(Reason::Malformed.into())
+            };
+            assert_eq!(read, expected);
         }
+    }
+
+    #[test]
+    fn aspects_and_what_they_say() {
+        let body = |aspect: u8| {
+            let mut body = [
+                0x48, 0x40, 0x0F, 0x00, 0x21, 0xC2, 0x40, 0xC4, 0xE2, 0x08, 0x00, 0x20, 0x02, 0x00, 0x80,
+            ];
+            body[6] |= aspect << 2;
+            body
+        };
+        let says = |aspect| sequence_header(&body(aspect)).map(|header| header.display_ratio.to_string());
+        assert_eq!(
+            [1, 2, 3, 4].map(|aspect| says(aspect).unwrap()),
+            ["square samples", "4/3", "16/9", "221/100"]
+        );
+        assert_eq!((says(0), says(5)), (Err(Reason::Value.into()), Err(Reason::Value.into())));
     }
 }

@@ -1,10 +1,11 @@
 //! AVS+ (GY/T 257.1) broadcast recordings, read by a static library behind a safe interface.
 //!
 //! A recording is a stream of units, each a start code 00 00 01, a code byte and a body. [`file()`] checks a whole stream and
-//! lists its units; [`sequence_header`] and [`extension`] read single bodies; [`remove_escapes`], [`unsigned_golomb`] and
-//! [`decode`] read payloads.
+//! lists its units and groups; [`sequence_header`] and [`extension`] read single bodies; [`remove_escapes`] gives a [`Payload`],
+//! which has Exp-Golomb numbers and bins.
 //!
-//! No call keeps what it is lent, and a refusal leaves all lent memory as it was.
+//! No call keeps what it is lent, and a refusal leaves all lent memory as it was. Every call is an error where the library that
+//! is linked has another interface than this crate was written for; the declarations are the crate `avsplus-sys`.
 //!
 //! ```
 //! let header = [0x48, 0x40, 0x0F, 0x00, 0x21, 0xC2, 0x4C, 0xC4, 0xE2, 0x08, 0x00, 0x20, 0x02, 0x00, 0x80];
@@ -15,7 +16,7 @@
 //! for unit in recording.units() {
 //!     println!("{:02X} {} at {}: {} bytes", unit.code, unit.kind, unit.offset, unit.body.len());
 //! }
-//! let group = recording.group(0).expect("a filed recording has a group");
+//! let group = recording.group(0)?;
 //! assert_eq!((group.header.horizontal_size, group.header.vertical_size), (1920, 1080));
 //! assert_eq!(group.display, None);
 //! # Ok::<(), avsplus::Refused>(())
@@ -30,26 +31,29 @@ mod bodies;
 mod calls;
 pub mod fields;
 mod filing;
+mod kinds;
 mod payload;
-pub mod raw;
-mod status;
+mod recording;
+mod refused;
 
-pub use bins::{bypass, decode, decode_pair, start, stuffing, Context, State};
+pub use bins::{Context, State};
 pub use bodies::{
-    display_ratio, extension, frame_rate, sequence_header, Colour, CopyrightExtension, DisplayExtension, Extension, Ratio,
-    Scope, SequenceHeader,
+    display_ratio, extension, frame_rate, sequence_header, Colour, CopyrightExtension, DisplayExtension, DisplayRatio,
+    Extension, Ratio, Scope, SequenceHeader,
 };
-pub use filing::{
-    check, file, file_into, group, kind, next_start_code, row_body, row_exists, Group, Kind, Recording, Unit, LONGEST_STREAM,
-    ROW_WORDS,
-};
-pub use payload::{remove_escapes, signed_golomb, unsigned_golomb, LONGEST_PAYLOAD};
-pub use status::{Reason, Refused};
+pub use filing::{check, file_into, group, next_start_code, row_body, row_exists, Group, LONGEST_STREAM, ROW_WORDS};
+pub use kinds::Kind;
+pub use payload::{remove_escapes, remove_escapes_into, Payload, LONGEST_PAYLOAD};
+pub use recording::{file, Recording, Unit};
+pub use refused::{Reason, Refused};
+
+/// The interface that this crate was written for: [`version`] is it where every call is answered.
+pub const INTERFACE: u32 = avsplus_sys::AVSPLUS_VERSION;
 
 /// The number of the library's interface.
 ///
 /// ```
-/// assert_eq!(avsplus::version(), avsplus::raw::AVSPLUS_VERSION);
+/// assert_eq!(avsplus::version(), avsplus::INTERFACE);
 /// ```
 pub fn version() -> u32 {
     calls::version()

@@ -1,8 +1,8 @@
 //! Recordings of several groups, and what a refusal leaves as it was.
 
 use avsplus::{
-    check, decode, file, file_into, group, kind, next_start_code, row_body, row_exists, start, Colour, Context, Extension,
-    Kind, Reason, Scope, State, Unit,
+    check, file, file_into, group, next_start_code, row_body, row_exists, Colour, Context, Extension, Kind, Payload, Reason,
+    Scope, State, Unit,
 };
 
 const HEADER: [u8; 15] = [
@@ -40,10 +40,13 @@ fn three_groups() -> Vec<u8> {
 fn groups_by_rows_are_groups_by_the_library() {
     let stream = three_groups();
     let recording = file(&stream).unwrap();
-    let groups: Vec<_> = recording.groups().collect();
-    assert_eq!(groups.len(), 3);
+    assert_eq!(recording.groups().len(), 3);
+    let groups: Vec<_> = recording.groups().map(Result::unwrap).collect();
+    let mut backwards: Vec<_> = recording.groups().rev().map(Result::unwrap).collect();
+    backwards.reverse();
+    assert_eq!(backwards, groups);
     for (g, found) in groups.iter().enumerate() {
-        assert_eq!(recording.group(g).as_ref(), Some(found));
+        assert_eq!(recording.group(g).as_ref(), Ok(found));
         assert_eq!(group(&stream, g).as_ref(), Ok(found));
     }
     assert_eq!(
@@ -56,8 +59,8 @@ fn groups_by_rows_are_groups_by_the_library() {
     );
     assert_eq!(groups[1].display, None);
     assert_eq!(groups[2].display.unwrap().colour, None);
-    assert_eq!(recording.group(3), None);
-    assert_eq!(group(&stream, 3).unwrap_err().reason, Reason::NoRow);
+    assert_eq!(recording.group(3), Err(Reason::NoRow.into()));
+    assert_eq!(group(&stream, 3), Err(Reason::NoRow.into()));
 }
 
 #[test]
@@ -70,8 +73,8 @@ fn groups_agree_whatever_byte_is_changed() {
             let first = group(&stream, 0);
             match file(&stream) {
                 Ok(recording) => {
-                    assert_eq!(check(&stream), Ok(recording.unit_count()));
-                    assert_eq!(recording.group(0), first.ok());
+                    assert_eq!(check(&stream), Ok(recording.units().len()));
+                    assert_eq!(recording.group(0), first);
                 }
                 Err(refused) => assert_eq!((check(&stream), first), (Err(refused), Err(refused))),
             }
@@ -118,13 +121,19 @@ fn rows_that_point_outside_do_not_exist() {
         [0xB2, 0, u32::MAX],
         [0xB2, u32::MAX, u32::MAX],
     ] {
-        assert!(!row_exists(&stream, &row, 0));
-        assert_eq!(row_body(&stream, &row, 0), None);
+        assert_eq!(row_exists(&stream, &row, 0), Ok(false));
+        assert_eq!(row_body(&stream, &row, 0), Err(Reason::NoRow.into()));
     }
     let row = [0xB2, 0, 2];
-    assert!(!row_exists(&stream, &row[..2], 0) && !row_exists(&[], &[], 0));
-    assert!(!row_exists(&stream, &row, 1) && !row_exists(&stream, &row, usize::MAX));
-    assert_eq!(row_body(&stream, &[0xB2, 2, 0], 0), Some(&stream[6..]));
+    for (stream, rows, i) in [
+        (&stream[..], &row[..2], 0),
+        (&[], &[], 0),
+        (&stream, &row, 1),
+        (&stream, &row, usize::MAX),
+    ] {
+        assert_eq!(row_exists(stream, rows, i), Ok(false));
+    }
+    assert_eq!(row_body(&stream, &[0xB2, 2, 0], 0), Ok(&stream[6..]));
 }
 
 #[test]
@@ -134,24 +143,6 @@ fn streams_over_the_limit() {
     assert_eq!(file(&stream[1..]).unwrap_err().reason, Reason::NoCode);
     assert_eq!(group(&stream, 0).unwrap_err().reason, Reason::TooLong);
     assert_eq!(check(&stream).unwrap_err().reason, Reason::TooLong);
-}
-
-#[test]
-fn kinds_of_all_codes() {
-    for code in 0..=255 {
-        let expected = match code {
-            0x00..=0xAF => Some(Kind::Slice),
-            0xB0 => Some(Kind::SequenceHeader),
-            0xB1 => Some(Kind::SequenceEnd),
-            0xB2 => Some(Kind::UserData),
-            0xB3 => Some(Kind::IPicture),
-            0xB5 => Some(Kind::Extension),
-            0xB6 => Some(Kind::PbPicture),
-            0xB7 => Some(Kind::EditCode),
-            _ => None,
-        };
-        assert_eq!(kind(code), expected, "{:02X}", code);
-    }
 }
 
 #[test]
@@ -165,13 +156,13 @@ fn a_copyright_extension() {
             other => panic!("{:?}", other),
         }
     }
-    assert_eq!(avsplus::extension(&COPYRIGHT[..11], Scope::Head), Err(Reason::Short));
+    assert_eq!(avsplus::extension(&COPYRIGHT[..11], Scope::Head), Err(Reason::Short.into()));
     assert_eq!(avsplus::extension(&[0xB5], Scope::Head), Ok(Extension::Opaque(11)));
 }
 
 #[test]
 fn a_bad_state_stays_as_it_was() {
-    let payload = [0x40, 0x00];
+    let payload = Payload::whole(&[0x40, 0x00]);
     let bad = State {
         rs: 1,
         rt: 0,
@@ -179,24 +170,96 @@ fn a_bad_state_stays_as_it_was() {
         vt: 0,
         place: 0,
     };
-    let (mut state, mut context) = (bad, Context::fresh());
-    assert_eq!(decode(&payload, 16, &mut state, &mut context), Err(Reason::BadState));
-    assert_eq!((state, context), (bad, Context::fresh()));
-    let mut state = start(&payload, 16).unwrap();
-    let mut context = Context {
-        lg: 3,
-        ..Context::fresh()
-    };
-    assert_eq!(decode(&payload, 16, &mut state, &mut context), Err(Reason::BadState));
-    assert_eq!((state, context.lg), (start(&payload, 16).unwrap(), 3));
+    let (mut state, mut context) = (bad, Context::FRESH);
+    assert_eq!(payload.decode(&mut state, &mut context), Err(Reason::BadState.into()));
+    assert_eq!((state, context), (bad, Context::FRESH));
+    let mut state = payload.start().unwrap();
+    let mut context = Context { lg: 3, ..Context::FRESH };
+    assert_eq!(payload.decode(&mut state, &mut context), Err(Reason::BadState.into()));
+    assert_eq!((state, context.lg), (payload.start().unwrap(), 3));
+}
+
+#[test]
+fn the_bit_count_travels_with_the_bytes() {
+    // A number at bit 8 wants one bit more than there are; what fills the last byte would make it up.
+    let raw = [0xFF, 0x00, 0x00, 0x02, 0x40, 0x01, 0x01];
+    let payload = avsplus::remove_escapes(&raw).unwrap();
+    assert_eq!((payload.bits(), payload.bytes().len()), (54, 7));
+    assert_eq!(payload.unsigned_golomb(8), Err(Reason::PayloadOut.into()));
+    assert!(Payload::whole(payload.bytes()).unsigned_golomb(8).is_ok());
+    let mut output = [0xAA; 9];
+    let lent = avsplus::remove_escapes_into(&raw, &mut output).unwrap();
+    assert_eq!((lent.bits(), lent.bytes()), (54, payload.bytes()));
+    assert_eq!(lent.signed_golomb(8), Err(Reason::PayloadOut.into()));
+    assert_eq!(output[7..], [0xAA; 2]);
+}
+
+#[test]
+fn payloads_over_the_limit() {
+    let raw = vec![1; avsplus::LONGEST_PAYLOAD + 1];
+    assert_eq!(avsplus::remove_escapes(&raw[1..]).unwrap().bits(), 524_288);
+    assert_eq!(avsplus::remove_escapes(&raw).unwrap_err().reason, Reason::TooLong);
+    // TOO LONG looks at the bytes, whatever the bit count.
+    assert_eq!(Payload::first_bits(&raw, 8).start(), Err(Reason::TooLong.into()));
+}
+
+#[test]
+fn units_know_where_they_stand() {
+    let stream = three_groups();
+    let recording = file(&stream).unwrap();
+    assert_eq!(recording.units().len(), 24);
+    let units: Vec<Unit<'_>> = recording.units().collect();
+    let mut backwards: Vec<Unit<'_>> = recording.units().rev().collect();
+    backwards.reverse();
+    assert_eq!(backwards, units);
+    for (i, unit) in units.iter().enumerate() {
+        assert_eq!((unit.index, recording.unit(i)), (i, Ok(*unit)));
+    }
+    assert_eq!(recording.unit(24), Err(Reason::NoRow.into()));
+    // Headers with what is in their heads, and the two pictures of each group.
+    let heads = [(0, 0..4), (1, 9..10), (2, 15..17)];
+    for unit in &units {
+        let (g, head) = heads.iter().rev().find(|(_, head)| head.start <= unit.index).unwrap();
+        assert_eq!(unit.group, if unit.index < 22 { Some(*g) } else { None });
+        assert_eq!(unit.in_head, head.contains(&unit.index), "{:?}", unit);
+    }
+    for (g, count) in [(0, 9), (1, 6), (2, 7), (3, 0), (usize::MAX, 0)] {
+        let of_group: Vec<Unit<'_>> = units.iter().copied().filter(|unit| unit.group == Some(g)).collect();
+        assert_eq!(recording.units_of(g).len(), count);
+        assert_eq!(recording.units_of(g).collect::<Vec<_>>(), of_group);
+    }
+}
+
+#[test]
+fn units_know_their_extension_and_their_zeros() {
+    let stream = three_groups();
+    let recording = file(&stream).unwrap();
+    let shown = |unit: Unit<'_>| unit.extension().unwrap().map(|extension| extension.to_string());
+    let extensions: Vec<(usize, String)> = recording.units().filter_map(|u| shown(u).map(|e| (u.index, e))).collect();
+    let expected = [
+        (2, "copyright extension"),
+        (3, "display extension"),
+        (7, "extension 2, opaque"),
+        (13, "extension 2, opaque"),
+        (16, "display extension"),
+        (20, "extension 2, opaque"),
+    ];
+    assert_eq!(extensions, expected.map(|(i, name)| (i, name.to_string())));
+    for unit in recording.units() {
+        // Only slices have a zero byte after them here; that of user data is its own.
+        assert_eq!(unit.trailing_zeros, usize::from(unit.kind == Kind::Slice));
+        let end = unit.offset + 4 + unit.body.len() + unit.trailing_zeros;
+        assert!(end == stream.len() || stream[end..].starts_with(&[0, 0, 1]));
+    }
 }
 
 #[test]
 fn empty_inputs() {
     assert_eq!(file(&[]).unwrap_err().reason, Reason::NoCode);
-    assert_eq!(avsplus::sequence_header(&[]), Err(Reason::Short));
-    assert_eq!(avsplus::remove_escapes(&[], &mut []), Ok(0));
-    assert_eq!(avsplus::unsigned_golomb(&[], 0, 0), Err(Reason::PayloadOut));
-    assert_eq!(start(&[], 0), Err(Reason::PayloadOut));
-    assert_eq!((next_start_code(&[], 0), next_start_code(&[0, 0, 1], 9)), (0, 3));
+    assert_eq!(avsplus::sequence_header(&[]), Err(Reason::Short.into()));
+    let nothing = avsplus::remove_escapes(&[]).unwrap();
+    assert_eq!((nothing.bits(), nothing.bytes().len()), (0, 0));
+    assert_eq!(nothing.unsigned_golomb(0), Err(Reason::PayloadOut.into()));
+    assert_eq!(nothing.start(), Err(Reason::PayloadOut.into()));
+    assert_eq!((next_start_code(&[], 0), next_start_code(&[0, 0, 1], 9)), (Ok(0), Ok(3)));
 }

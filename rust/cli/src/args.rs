@@ -2,7 +2,7 @@
 
 use std::ffi::{OsStr, OsString};
 
-use crate::outcome::Failure;
+use crate::failure::Failure;
 
 /// What arguments a command takes; all take `--json`.
 pub struct Shape {

@@ -1,15 +1,16 @@
-//! The help texts.
+//! The help texts. The man page is made of them.
 
 /// Help on the program.
 pub const OVERVIEW: &str = "\
-Files AVS+ (GY/T 257.1) recordings.
+Files AVS+ (GY/T 257.1) recordings. A bit that is missing is never read as 0, and a
+field that is not in the stream is not given.
 
-Usage: avsplus COMMAND ARGUMENTS
+Usage: avsplus [--json] COMMAND ARGUMENTS
 
 Recordings:
   file REC               the sheet: answer, units, and each group's fields
   units REC              the units alone
-  header REC             the sequence header and display extension of one group
+  header REC             the sequence header and the extensions of one group
   body REC N             the body of unit N
 
 Payloads:
@@ -17,36 +18,48 @@ Payloads:
   golomb FILE            Exp-Golomb numbers, one after another
   bins FILE --count K    bins of the arithmetic decoder
 
+Help:
+  help                   this text
+  help COMMAND           help on a command, as COMMAND --help gives it
+  help refusals          the refusals with their numbers, and what they mean
+  help --man             all of it as a man page
+
 Options:
-  --help                 this text, or after a command the help on it
-  --json                 after a command: one JSON object instead of text
+  --json                 one JSON object instead of text; before or after a command
+  --help                 help, on the command it stands after
   --version              the version
 
 REC or FILE may be -, which reads standard input.
 
-Exit status: 0 when filed or done, 1 when refused, 2 when the arguments are wrong
-or a file cannot be read or written.
+Exit status: 0 when filed or done, 1 when refused, 2 when the arguments are wrong, or
+a file or the output cannot be read or written.
 ";
 
 /// Help on `file`.
 pub const FILE: &str = "\
-Files a recording and prints its sheet: the answer, the units, then for each group
-the fields of its sequence header and display extension, each with its first bit in
-the body and its width. Of a refused recording only the answer and its reason.
+Files a recording and prints its sheet: the answer, the units, then for each group the
+fields of its sequence header, of its display extension and of its copyright
+extensions. Each field has its first bit in the body and its width beside it; what is
+worked out from fields says so and how. What the stream does not have is not given. Of
+a refused recording the sheet has the answer, its reason, how many bytes there are, and
+the bytes where the refusal stands.
 
 Usage: avsplus file REC [--json]
 
   REC       the recording, or - for standard input
-  --json    one JSON object instead of text
+  --json    one JSON object instead of text; what is worked out stands apart, and a
+            copyright number, which may be over 2^53, is a string
   --help    this text
 
-Exit status: 0 filed, 1 refused, 2 wrong arguments or no such file.
+Exit status: 0 filed, 1 refused, 2 wrong arguments, or a file that cannot be read.
 ";
 
 /// Help on `units`.
 pub const UNITS: &str = "\
-Files a recording and prints its units: index, code in hexadecimal, kind, offset of
-the start code and length of the body.
+Files a recording and prints its units: index, group, code in hexadecimal, kind, offset
+of the start code, length of the body, and zero bytes that follow the body. The ending
+belongs to no group. Extensions are told apart: display, copyright, or opaque with
+their number.
 
 Usage: avsplus units REC [--json]
 
@@ -54,12 +67,13 @@ Usage: avsplus units REC [--json]
   --json    one JSON object instead of text
   --help    this text
 
-Exit status: 0 filed, 1 refused, 2 wrong arguments or no such file.
+Exit status: 0 filed, 1 refused, 2 wrong arguments, or a file that cannot be read.
 ";
 
 /// Help on `header`.
 pub const HEADER: &str = "\
-Files a recording and prints the sequence header and display extension of one group.
+Files a recording and prints one group: its sequence header, its display extension and
+its copyright extensions, as the sheet has them.
 
 Usage: avsplus header REC [--group G] [--json]
 
@@ -68,7 +82,8 @@ Usage: avsplus header REC [--group G] [--json]
   --json       one JSON object instead of text
   --help       this text
 
-Exit status: 0 done, 1 refused or no such group, 2 wrong arguments or no such file.
+Exit status: 0 done, 1 refused or no such group, 2 wrong arguments, or a file that
+cannot be read.
 ";
 
 /// Help on `body`.
@@ -80,45 +95,57 @@ Usage: avsplus body REC N [--hex] [--json]
   REC       the recording, or - for standard input
   N         the unit, counted from 0
   --hex     hexadecimal instead of the bytes
-  --json    one JSON object with the unit, its offset, its length and the bytes in
-            hexadecimal
+  --json    one JSON object with the unit and its bytes in hexadecimal
   --help    this text
 
-Exit status: 0 done, 1 refused or no such unit, 2 wrong arguments or no such file.
+Exit status: 0 done, 1 refused or no such unit, 2 wrong arguments, or a file that cannot
+be read.
 ";
 
 /// Help on `unescape`.
 pub const UNESCAPE: &str = "\
-Removes the escape bits of a payload and prints how many bits are left, and the bytes
-in hexadecimal; the last byte is filled with zeros.
+Removes the escape bits of a payload and prints how many bits are left, the bytes in
+hexadecimal, and with which --bits they are to be read: the last byte is filled with
+zeros, which are not the payload's. To read numbers or bins of a payload with escape
+bits in one step see --unit and --escaped of golomb and bins.
 
-Usage: avsplus unescape FILE [--output OUT] [--json]
+Usage: avsplus unescape FILE [--unit N] [--output OUT] [--json]
 
   FILE            the payload, or - for standard input
-  --output OUT    the bytes go to this file, and only the count is printed
+  --unit N        FILE is a recording, and the payload is the body of its unit N
+  --output OUT    the bytes go to this file; with - to standard output, and then the
+                  count goes to standard error
   --json          one JSON object instead of text
   --help          this text
 
-Exit status: 0 done, 1 refused, 2 wrong arguments or a file that cannot be read or
+Exit status: 0 done, 1 refused, 2 wrong arguments, or a file that cannot be read or
 written.
 ";
 
 /// Help on `golomb`.
 pub const GOLOMB: &str = "\
 Reads Exp-Golomb numbers one after another and prints each with its bit place. Without
---count it reads until the payload ends.
+--count it reads until the payload ends; bits that are left and are no whole number are
+a refusal, which says how many they are.
 
-Usage: avsplus golomb FILE [--bits N] [--signed] [--place P] [--count K] [--json]
+Usage: avsplus golomb FILE [--unit N | --escaped | --bits N] [--signed] [--place P]
+                           [--count K] [--json]
 
   FILE         the payload, or - for standard input
-  --bits N     only the first N bits are the payload
+  --unit N     FILE is a recording, and the payload is the body of its unit N, whose
+               escape bits are removed
+  --escaped    escape bits are removed first
+  --bits N     FILE has no escape bits, and its first N bits are the payload; all for
+               all bits of it. Without any of these three nobody says where the payload
+               ends: zeros at the end of the last byte may be filling, and are not read
   --signed     signed numbers
   --place P    the bit to begin at; 0 where it is not said
   --count K    exactly K numbers
   --json       one JSON object instead of text
   --help       this text
 
-Exit status: 0 done, 1 refused, 2 wrong arguments or no such file.
+Exit status: 0 when the payload ends with a number or K numbers are read, 1 refused, 2
+wrong arguments, or a file that cannot be read.
 ";
 
 /// Help on `bins`.
@@ -126,15 +153,28 @@ pub const BINS: &str = "\
 Starts the arithmetic decoder on a payload, decodes bins with one fresh context, and
 prints the bins, the state and the context after them.
 
-Usage: avsplus bins FILE [--bits N] --count K [--bypass | --stuffing] [--json]
+Usage: avsplus bins FILE [--unit N | --escaped | --bits N] --count K
+                         [--bypass | --stuffing] [--json]
 
   FILE          the payload, or - for standard input
-  --bits N      only the first N bits are the payload
+  --unit N      FILE is a recording, and the payload is the body of its unit N, whose
+                escape bits are removed
+  --escaped     escape bits are removed first
+  --bits N      FILE has no escape bits, and its first N bits are the payload; all for
+                all bits of it. Without any of these three nobody says where the payload
+                ends: zeros at the end of the last byte may be filling, and are not read
   --count K     how many bins
   --bypass      bypass bins, which have no context
   --stuffing    stuffing bins, which have no context
   --json        one JSON object instead of text
   --help        this text
 
-Exit status: 0 done, 1 refused, 2 wrong arguments or no such file.
+Exit status: 0 done, 1 refused, 2 wrong arguments, or a file that cannot be read.
+";
+
+/// Before the table of refusals.
+pub const REFUSALS: &str = "\
+The refusals: number, name, and what each means. docs/RULES.md of the project says of
+each exactly when it is given, and what to look at in the recording.
+
 ";

@@ -1,89 +1,158 @@
-//! JSON, written without spaces.
+//! JSON, written as it comes: one object on one line, without spaces.
 
-use std::fmt::Write;
+use std::io::{self, Write};
 
-/// A JSON value.
-#[derive(Debug, Clone, PartialEq, Eq)]
+use crate::failure::{Failure, Refusal, Site, Written};
+
+/// A value that is no object and no list. A number over 2^53, which readers would round, is written as a text by whoever writes
+/// it.
+#[derive(Debug, Clone)]
 pub enum Value {
     /// Not given.
     Null,
+    /// Yes or no.
+    Truth(bool),
     /// A whole number.
     Number(i64),
     /// A text.
     Text(String),
-    /// Values in order.
-    List(Vec<Value>),
-    /// Members in order.
-    Object(Vec<(String, Value)>),
 }
 
-impl Value {
-    /// An object of some members.
-    pub fn object<const N: usize>(members: [(&str, Value); N]) -> Value {
-        Value::Object(members.into_iter().map(|(name, value)| (name.to_string(), value)).collect())
-    }
+/// An object that is being written.
+pub struct Object<'w> {
+    output: &'w mut dyn Write,
+    empty: bool,
+}
 
-    /// The value on a line of its own.
-    pub fn line(&self) -> String {
-        let mut output = String::new();
-        self.write(&mut output);
-        output.push('\n');
-        output
-    }
+/// Writes an object on a line of its own.
+pub fn line(output: &mut dyn Write, members: impl FnOnce(&mut Object) -> Written) -> Written {
+    object(output, members)?;
+    Ok(output.write_all(b"\n")?)
+}
 
-    fn write(&self, output: &mut String) {
-        match self {
-            Value::Null => output.push_str("null"),
-            Value::Number(number) => output.push_str(&number.to_string()),
-            Value::Text(text) => write_text(text, output),
-            Value::List(values) => write_list(values, output),
-            Value::Object(members) => write_object(members, output),
+fn object(output: &mut dyn Write, members: impl FnOnce(&mut Object) -> Written) -> Written {
+    output.write_all(b"{")?;
+    members(&mut Object { output, empty: true })?;
+    Ok(output.write_all(b"}")?)
+}
+
+impl Object<'_> {
+    fn name(&mut self, name: &str) -> io::Result<()> {
+        if !self.empty {
+            self.output.write_all(b",")?;
         }
+        self.empty = false;
+        write!(self.output, "\"{}\":", name)
+    }
+
+    /// A member that is a value.
+    pub fn put(&mut self, name: &str, value: impl Into<Value>) -> Written {
+        self.name(name)?;
+        Ok(write_value(self.output, &value.into())?)
+    }
+
+    /// A member that is an object.
+    pub fn object(&mut self, name: &str, members: impl FnOnce(&mut Object) -> Written) -> Written {
+        self.name(name)?;
+        object(self.output, members)
+    }
+
+    /// A member that is a list of objects.
+    pub fn objects<T>(
+        &mut self,
+        name: &str,
+        items: impl Iterator<Item = T>,
+        mut members: impl FnMut(&mut Object, T) -> Written,
+    ) -> Written {
+        self.list(name, items, |output, item| object(output, |o| members(o, item)))
+    }
+
+    /// A member that is a list of values.
+    pub fn values<T: Into<Value>>(&mut self, name: &str, items: impl Iterator<Item = T>) -> Written {
+        self.list(name, items, |output, item| Ok(write_value(output, &item.into())?))
+    }
+
+    fn list<T>(
+        &mut self,
+        name: &str,
+        items: impl Iterator<Item = T>,
+        mut write: impl FnMut(&mut dyn Write, T) -> Written,
+    ) -> Written {
+        self.name(name)?;
+        let mut between: &[u8] = b"[";
+        for item in items {
+            self.output.write_all(between)?;
+            write(self.output, item)?;
+            between = b",";
+        }
+        if between == b"[" {
+            self.output.write_all(between)?;
+        }
+        Ok(self.output.write_all(b"]")?)
+    }
+
+    /// A member that is a text of bytes in hexadecimal.
+    pub fn hex(&mut self, name: &str, bytes: &[u8]) -> Written {
+        self.name(name)?;
+        self.output.write_all(b"\"")?;
+        write_hex(self.output, bytes)?;
+        Ok(self.output.write_all(b"\"")?)
+    }
+
+    /// The members that name a good answer.
+    pub fn done(&mut self, name: &str) -> Written {
+        self.put("answer", name)?;
+        self.put("number", 0_u32)
+    }
+
+    /// The members that name a refusal and say where it stands.
+    pub fn refused(&mut self, refusal: &Refusal) -> Written {
+        self.put("answer", refusal.reason.name())?;
+        self.put("number", refusal.reason.number())?;
+        match refusal.site {
+            Some(Site::Byte(offset)) => self.put("offset", offset)?,
+            Some(Site::Bit(place)) => self.put("place", place)?,
+            None => {}
+        }
+        self.put("meaning", refusal.meaning.as_str())
     }
 }
 
-fn write_list(values: &[Value], output: &mut String) {
-    output.push('[');
-    for (i, value) in values.iter().enumerate() {
-        if i > 0 {
-            output.push(',');
-        }
-        value.write(output);
+/// Bytes in hexadecimal, without spaces.
+pub fn write_hex(output: &mut dyn Write, bytes: &[u8]) -> Result<(), Failure> {
+    for byte in bytes {
+        write!(output, "{:02x}", byte)?;
     }
-    output.push(']');
+    Ok(())
 }
 
-fn write_object(members: &[(String, Value)], output: &mut String) {
-    output.push('{');
-    for (i, (name, value)) in members.iter().enumerate() {
-        if i > 0 {
-            output.push(',');
-        }
-        write_text(name, output);
-        output.push(':');
-        value.write(output);
+fn write_value(output: &mut dyn Write, value: &Value) -> io::Result<()> {
+    match value {
+        Value::Null => output.write_all(b"null"),
+        Value::Truth(truth) => write!(output, "{}", truth),
+        Value::Number(number) => write!(output, "{}", number),
+        Value::Text(text) => write_text(output, text),
     }
-    output.push('}');
 }
 
 /// Quotes, backslashes and control characters may not stand in a text as they are.
-fn write_text(text: &str, output: &mut String) {
-    output.push('"');
+fn write_text(output: &mut dyn Write, text: &str) -> io::Result<()> {
+    output.write_all(b"\"")?;
     for character in text.chars() {
         match character {
-            '"' => output.push_str("\\\""),
-            '\\' => output.push_str("\\\\"),
-            '\n' => output.push_str("\\n"),
-            '\r' => output.push_str("\\r"),
-            '\t' => output.push_str("\\t"),
-            control if control < ' ' => {
-                // Writing to a String cannot fail.
-                let _ = write!(output, "\\u{:04x}", control as u32);
-            }
-            other => output.push(other),
+            '"' => output.write_all(b"\\\"")?,
+            '\\' => output.write_all(b"\\\\")?,
+            control if control < ' ' => write!(output, "\\u{:04x}", control as u32)?,
+            other => write!(output, "{}", other)?,
         }
     }
-    output.push('"');
+    output.write_all(b"\"")
+}
+
+impl From<bool> for Value {
+    fn from(truth: bool) -> Value {
+        Value::Truth(truth)
+    }
 }
 
 impl From<u32> for Value {
@@ -92,9 +161,15 @@ impl From<u32> for Value {
     }
 }
 
+impl From<i64> for Value {
+    fn from(number: i64) -> Value {
+        Value::Number(number)
+    }
+}
+
 impl From<usize> for Value {
     fn from(number: usize) -> Value {
-        // Lengths and places stay far below 2^63.
+        // Lengths and places stay far below 2^53.
         Value::Number(number as i64)
     }
 }
@@ -121,16 +196,28 @@ impl<T: Into<Value>> From<Option<T>> for Value {
 mod tests {
     use super::*;
 
+    fn written(members: impl FnOnce(&mut Object) -> Written) -> String {
+        let mut output = Vec::new();
+        line(&mut output, members).unwrap();
+        String::from_utf8(output).unwrap()
+    }
+
     #[test]
     fn texts_are_escaped() {
-        let text = Value::from("a\"b\\c\nd\re\tf\u{1}g\u{1f}h/é");
-        assert_eq!(text.line(), "\"a\\\"b\\\\c\\nd\\re\\tf\\u0001g\\u001fh/é\"\n");
+        let text = written(|o| o.put("t", "a\"b\\c\nd\u{1}e\u{1f}f/é"));
+        assert_eq!(text, "{\"t\":\"a\\\"b\\\\c\\u000ad\\u0001e\\u001ff/é\"}\n");
     }
 
     #[test]
     fn lists_and_objects_keep_their_order() {
-        let list = Value::List(vec![Value::Number(-1), Value::Null, Value::List(Vec::new())]);
-        let object = Value::object([("b", list), ("a", "x".into())]);
-        assert_eq!(object.line(), "{\"b\":[-1,null,[]],\"a\":\"x\"}\n");
+        let text = written(|o| {
+            o.values("b", [-1_i64, 2].into_iter())?;
+            o.values("none", std::iter::empty::<u32>())?;
+            o.objects("a", [true, false].into_iter(), |o, truth| o.put("x", truth))?;
+            o.object("c", |o| o.put("null", None::<u32>))?;
+            o.hex("hex", &[0, 0xAB])
+        });
+        let expected = "{\"b\":[-1,2],\"none\":[],\"a\":[{\"x\":true},{\"x\":false}],\"c\":{\"null\":null},\"hex\":\"00ab\"}\n";
+        assert_eq!(text, expected);
     }
 }

@@ -1,30 +1,41 @@
 //! Files AVS+ (GY/T 257.1) recordings at a command line.
 
+#![deny(unsafe_code)]
+
 mod args;
+mod bins;
+mod failure;
 mod files;
+mod golomb;
 mod help;
 mod json;
-mod outcome;
+mod manual;
 mod payloads;
 mod recordings;
 mod sheet;
+#[allow(unsafe_code)]
+mod standard;
 
 use std::env;
-use std::ffi::OsString;
+use std::ffi::{OsStr, OsString};
+use std::io::{self, Write};
 use std::process::ExitCode;
 
+use avsplus::Reason;
+
 use args::{Args, Shape};
-use outcome::{Failure, Outcome};
+use failure::{Failure, Status};
+use standard::{complain, Output};
 
 /// A command: its name, its help, its arguments and what it does.
 struct Command {
     name: &'static str,
     help: &'static str,
     shape: Shape,
-    run: fn(&Args) -> Result<Outcome, Failure>,
+    run: fn(&Args, &mut dyn Write) -> Result<Status, Failure>,
 }
 
-const COMMANDS: [Command; 7] = [
+const COMMANDS: &[Command] = &[
     Command {
         name: "file",
         help: help::FILE,
@@ -71,7 +82,7 @@ const COMMANDS: [Command; 7] = [
         shape: Shape {
             operands: &["FILE"],
             flags: &[],
-            options: &["--output"],
+            options: &["--unit", "--output"],
         },
         run: payloads::unescape,
     },
@@ -80,42 +91,138 @@ const COMMANDS: [Command; 7] = [
         help: help::GOLOMB,
         shape: Shape {
             operands: &["FILE"],
-            flags: &["--signed"],
-            options: &["--bits", "--place", "--count"],
+            flags: &["--escaped", "--signed"],
+            options: &["--unit", "--bits", "--place", "--count"],
         },
-        run: payloads::golomb,
+        run: golomb::golomb,
     },
     Command {
         name: "bins",
         help: help::BINS,
         shape: Shape {
             operands: &["FILE"],
-            flags: &["--bypass", "--stuffing"],
-            options: &["--bits", "--count"],
+            flags: &["--escaped", "--bypass", "--stuffing"],
+            options: &["--unit", "--bits", "--count"],
         },
-        run: payloads::bins,
+        run: bins::bins,
     },
 ];
 
+/// Exit status of a refusal.
+const REFUSED: u8 = 1;
+/// Exit status of wrong arguments, and of files and output that cannot be read or written.
+const FAILED: u8 = 2;
+
 fn main() -> ExitCode {
     let given: Vec<OsString> = env::args_os().skip(1).collect();
-    let outcome = run(&given).unwrap_or_else(Outcome::failed);
-    ExitCode::from(outcome.deliver())
+    let mut output = Output::new();
+    let (asked_json, outcome) = run(&given, &mut output);
+    let outcome = match outcome {
+        Err(Failure::Refused(refusal)) if asked_json => {
+            json::line(&mut output, |object| object.refused(&refusal)).map(|()| Status::Refused)
+        }
+        other => other,
+    };
+    // What was written so far comes before a complaint, and output that is lost is a failure whatever the answer is.
+    let flushed = output.flush().map_err(Failure::from);
+    let status = exit_status(&outcome);
+    ExitCode::from(match (outcome, flushed) {
+        (Err(Failure::Output(_)), _) | (_, Ok(())) => status,
+        (_, Err(failure)) if failure.is_closed_pipe() => status,
+        (_, Err(failure)) => exit_status(&Err(failure)),
+    })
 }
 
-/// Runs what the arguments ask for.
-fn run(given: &[OsString]) -> Result<Outcome, Failure> {
-    let (first, rest) = given.split_first().ok_or_else(|| Failure::usage("no command given"))?;
-    match first.to_str() {
-        Some("--help" | "-h") => return Ok(Outcome::done(help::OVERVIEW)),
-        Some("--version" | "-V") => return Ok(Outcome::done(concat!("avsplus ", env!("CARGO_PKG_VERSION"), "\n"))),
-        _ => {}
+/// The exit status, with the complaint written. A reader who has seen enough is no failure.
+fn exit_status(outcome: &Result<Status, Failure>) -> u8 {
+    match outcome {
+        Ok(Status::Done) => 0,
+        Ok(Status::Refused) => REFUSED,
+        Err(failure) if failure.is_closed_pipe() => 0,
+        Err(failure) => {
+            complain(&failure.in_words());
+            match failure {
+                Failure::Refused(_) => REFUSED,
+                _ => FAILED,
+            }
+        }
     }
-    let command = COMMANDS.iter().find(|command| first == command.name);
-    let command = command.ok_or_else(|| Failure::usage(format!("no command {:?}", first.to_string_lossy())))?;
+}
+
+/// Runs what the arguments ask for, and says whether JSON was asked for.
+fn run(given: &[OsString], output: &mut dyn Write) -> (bool, Result<Status, Failure>) {
+    let before = given.iter().take_while(|&argument| argument == "--json").count();
+    let (first, rest) = match given[before..].split_first() {
+        Some(split) => split,
+        None => return (false, Err(Failure::usage("no command given"))),
+    };
+    if let Some(asked) = asked_for_help(first, rest, output) {
+        return (false, asked);
+    }
+    let command = match find(first) {
+        Ok(command) => command,
+        Err(failure) => return (false, Err(failure)),
+    };
     if args::asks_for_help(rest) {
-        return Ok(Outcome::done(command.help));
+        return (false, help_on(command, output));
     }
-    let args = command.shape.parse(rest).map_err(|failure| failure.of(command.name))?;
-    (command.run)(&args).map_err(|failure| failure.of(command.name))
+    match command.shape.parse(&[&given[..before], rest].concat()) {
+        Ok(args) => (
+            args.json(),
+            (command.run)(&args, output).map_err(|failure| failure.of(command.name)),
+        ),
+        Err(failure) => (false, Err(failure.of(command.name))),
+    }
+}
+
+fn find(name: &OsStr) -> Result<&'static Command, Failure> {
+    let command = COMMANDS.iter().find(|command| name == command.name);
+    command.ok_or_else(|| Failure::usage(format!("no command {:?}", name.to_string_lossy())))
+}
+
+/// What is no command: help and the version.
+fn asked_for_help(first: &OsStr, rest: &[OsString], output: &mut dyn Write) -> Option<Result<Status, Failure>> {
+    Some(match first.to_str()? {
+        "--help" | "-h" => done(output.write_all(help::OVERVIEW.as_bytes())),
+        "--version" | "-V" => done(writeln!(
+            output,
+            "avsplus {}, library interface {}",
+            env!("CARGO_PKG_VERSION"),
+            avsplus::version()
+        )),
+        "help" => help(rest, output),
+        _ => return None,
+    })
+}
+
+fn done(written: io::Result<()>) -> Result<Status, Failure> {
+    Ok(written.map(|()| Status::Done)?)
+}
+
+/// `help [COMMAND | refusals | --man]`
+fn help(topics: &[OsString], output: &mut dyn Write) -> Result<Status, Failure> {
+    match topics {
+        [] => done(output.write_all(help::OVERVIEW.as_bytes())),
+        [topic] if topic == "refusals" => done(write_refusals(output)),
+        [topic] if topic == "--man" => done(manual::write(output)),
+        [topic] => help_on(find(topic)?, output),
+        [_, extra, ..] => Err(Failure::usage(format!(
+            "{:?} is one argument too many",
+            extra.to_string_lossy()
+        ))),
+    }
+}
+
+fn help_on(command: &Command, output: &mut dyn Write) -> Result<Status, Failure> {
+    done(output.write_all(command.help.as_bytes()))
+}
+
+/// The table of refusals.
+fn write_refusals(output: &mut dyn Write) -> io::Result<()> {
+    output.write_all(help::REFUSALS.as_bytes())?;
+    for reason in Reason::all() {
+        let number = reason.number().map_or(String::new(), |number| number.to_string());
+        writeln!(output, "  {:>2}  {:<12}  {}", number, reason.name(), reason.meaning())?;
+    }
+    Ok(())
 }

@@ -1,271 +1,180 @@
-//! The commands on payloads.
+//! The commands on payloads. The bit count travels with the bytes: what fills a last byte is never read as data.
 
-use std::fmt::Write;
+use std::io::{self, Write};
 
-use avsplus::{Context, Reason, State};
+use avsplus::{Payload, Reason, Refused};
 
 use crate::args::Args;
-use crate::files::{hex, read_payload, write};
-use crate::json::Value;
-use crate::outcome::{answer, Failure, Outcome, Refusal};
+use crate::failure::{Failure, Refusal, Status, Written};
+use crate::files::{read_payload, read_stream, write};
+use crate::json::{self, write_hex, Object};
+use crate::recordings::{file_stream, unit};
+use crate::standard::complain;
 
 /// The answer to a payload that was read.
-const DONE: &str = "done";
+pub const DONE: &str = "done";
 
-/// A payload as the commands are given it: bytes, and how many of their bits count.
-struct Payload {
-    bytes: Vec<u8>,
-    bits: usize,
+/// A payload as a command is given it.
+pub struct Given {
+    pub payload: Payload<'static>,
+    /// Bits of the file that are not read, because nobody said whether they are the payload's: zeros at the end of the last byte.
+    pub unsure: usize,
 }
 
-impl Payload {
-    fn read(args: &Args) -> Result<Payload, Failure> {
-        let bits = args.number_option("--bits")?;
+impl Given {
+    /// Reads what `--unit`, `--escaped` or `--bits` says the payload is. Without any of these its end is not known: zeros after the
+    /// last 1 of the last byte may be filling, so they are not read.
+    pub fn read(args: &Args) -> Result<Given, Failure> {
+        let asked = ["--unit", "--escaped", "--bits"].map(|name| args.flag(name) || args.option(name).is_some());
+        if asked.iter().filter(|&&asked| asked).count() > 1 {
+            return Err(Failure::usage("--unit, --escaped and --bits exclude each other"));
+        }
+        match asked {
+            [true, _, _] | [_, true, _] => Ok(Given {
+                payload: unescaped(args)?,
+                unsure: 0,
+            }),
+            [_, _, true] => Given::of_bits(args),
+            _ => {
+                let bytes = read_payload(args.operand(0))?;
+                let unsure = bytes.last().map_or(0, |last| last.trailing_zeros().min(7) as usize);
+                Ok(Given {
+                    payload: Payload::first_bits(&bytes, 8 * bytes.len() - unsure).into_owned(),
+                    unsure,
+                })
+            }
+        }
+    }
+
+    /// So many bits as `--bits` says, or all.
+    fn of_bits(args: &Args) -> Result<Given, Failure> {
+        let bits = match args.option("--bits") {
+            Some(value) if value == "all" => usize::MAX,
+            _ => args.number_option("--bits")?.unwrap_or(usize::MAX),
+        };
         let bytes = read_payload(args.operand(0))?;
-        let bits = bits.unwrap_or(8 * bytes.len());
-        Ok(Payload { bytes, bits })
-    }
-}
-
-/// `unescape FILE [--output OUT]`: escape bits removed.
-pub fn unescape(args: &Args) -> Result<Outcome, Failure> {
-    let output = args.option("--output");
-    if output.map_or(false, |name| name == "-") {
-        return Err(Failure::usage("--output takes the name of a file"));
-    }
-    let payload = read_payload(args.operand(0))?;
-    let mut bytes = vec![0; payload.len()];
-    let bits = match avsplus::remove_escapes(&payload, &mut bytes) {
-        Ok(bits) => bits,
-        Err(reason) => return Ok(Outcome::refusal(&reason.into(), args.json())),
-    };
-    bytes.truncate((bits + 7) / 8);
-    if let Some(name) = output {
-        write(name, &bytes)?;
-    }
-    let shown = if output.is_none() { Some(hex(&bytes)) } else { None };
-    if args.json() {
-        let mut members = answer(DONE, 0);
-        members.push(("bits".to_string(), bits.into()));
-        members.push(("hex".to_string(), shown.into()));
-        return Ok(Outcome::done(Value::Object(members).line()));
-    }
-    let bytes_line = shown.map_or(String::new(), |hex| format!("bytes: {}\n", hex));
-    Ok(Outcome::done(format!("bits: {}\n{}", bits, bytes_line)))
-}
-
-/// Exp-Golomb numbers with their places, the place after them, and the refusal that ended them.
-struct Numbers {
-    found: Vec<(usize, i64)>,
-    next: usize,
-    refusal: Option<Refusal>,
-}
-
-/// `golomb FILE`: Exp-Golomb numbers one after another.
-pub fn golomb(args: &Args) -> Result<Outcome, Failure> {
-    let count = args.number_option("--count")?;
-    let place = args.number_option("--place")?.unwrap_or(0);
-    let payload = Payload::read(args)?;
-    let mut numbers = read_numbers(&payload, args.flag("--signed"), place, count);
-    // Without a count the payload's end is where reading was to stop.
-    let ended = matches!(
-        numbers.refusal,
-        Some(Refusal {
-            reason: Reason::PayloadOut,
-            ..
+        Ok(Given {
+            payload: Payload::first_bits(&bytes, bits).into_owned(),
+            unsure: 0,
         })
-    );
-    if count.is_none() && ended && !numbers.found.is_empty() {
-        numbers.refusal = None;
     }
-    let output = if args.json() {
-        numbers_json(&numbers)
-    } else {
-        numbers_text(&numbers)
+
+    /// The bits that are left from a place on, with those that are not read.
+    pub fn left(&self, place: usize) -> usize {
+        (self.payload.bits() + self.unsure).saturating_sub(place)
+    }
+
+    /// What is to be said of bits that were not read.
+    pub fn about_unsure(&self) -> String {
+        match self.unsure {
+            0 => String::new(),
+            unsure => format!(
+                "; the last {} may be filling and were not read: --bits says how many bits the payload has",
+                bits(unsure)
+            ),
+        }
+    }
+
+    /// The first line of text.
+    pub fn text(&self, output: &mut dyn Write) -> io::Result<()> {
+        match self.unsure {
+            0 => writeln!(output, "payload: {}", bits(self.payload.bits())),
+            unsure => writeln!(
+                output,
+                "payload: {}, and {} at the end that may be filling",
+                bits(self.payload.bits()),
+                bits(unsure)
+            ),
+        }
+    }
+
+    /// The first members of a JSON object.
+    pub fn json(&self, object: &mut Object) -> Written {
+        object.put("payload_bits", self.payload.bits())?;
+        object.put("bits_not_read", self.unsure)
+    }
+}
+
+/// A count of bits in words.
+pub fn bits(count: usize) -> String {
+    format!("{} bit{}", count, if count == 1 { "" } else { "s" })
+}
+
+/// The payload of a recording's unit, or of a file as it is, its escape bits removed.
+fn unescaped(args: &Args) -> Result<Payload<'static>, Failure> {
+    let name = args.operand(0);
+    let removed = match args.number_option("--unit")? {
+        Some(n) => avsplus::remove_escapes(unit(&file_stream(&read_stream(name)?)?, n)?.body),
+        None => avsplus::remove_escapes(&read_payload(name)?),
     };
-    Ok(concluded(output, numbers.refusal, args.json()))
+    removed.map_err(|refused| match Failure::from(refused) {
+        Failure::Refused(refusal) => Failure::Refused(meaning_for(refusal)),
+        other => other,
+    })
 }
 
-/// Reads numbers until there are enough or one is refused.
-fn read_numbers(payload: &Payload, signed: bool, place: usize, count: Option<usize>) -> Numbers {
-    let mut numbers = Numbers {
-        found: Vec::new(),
-        next: place,
-        refusal: None,
-    };
-    while count.map_or(true, |count| numbers.found.len() < count) {
-        match read_number(payload, signed, numbers.next) {
-            Ok((number, next)) => {
-                numbers.found.push((numbers.next, number));
-                numbers.next = next;
-            }
-            Err(reason) => {
-                numbers.refusal = Some(Refusal {
-                    reason,
-                    place: Some(numbers.next),
-                });
-                break;
-            }
+/// What a refusal means for a payload.
+pub fn meaning_for(refusal: Refusal) -> Refusal {
+    match refusal.reason {
+        Reason::TooLong => {
+            let meaning = format!("{} of {} for a payload", refusal.meaning, avsplus::LONGEST_PAYLOAD);
+            refusal.meaning(meaning)
         }
+        Reason::Value => refusal.meaning("32 zeros or more stand before a 1, and no number is so long".to_string()),
+        _ => refusal,
     }
-    numbers
 }
 
-fn read_number(payload: &Payload, signed: bool, place: usize) -> Result<(i64, usize), Reason> {
-    if signed {
-        let (number, next) = avsplus::signed_golomb(&payload.bytes, payload.bits, place)?;
-        return Ok((i64::from(number), next));
+/// A refusal of a payload, or a library that does not fit.
+pub fn refusal_of(refused: Refused) -> Result<Refusal, Failure> {
+    match Failure::from(refused) {
+        Failure::Refused(refusal) => Ok(meaning_for(refusal)),
+        other => Err(other),
     }
-    let (number, next) = avsplus::unsigned_golomb(&payload.bytes, payload.bits, place)?;
-    Ok((i64::from(number), next))
 }
 
-fn numbers_text(numbers: &Numbers) -> String {
-    if numbers.found.is_empty() && numbers.refusal.is_some() {
-        return String::new();
+/// `unescape FILE [--unit N] [--output OUT]`: escape bits removed.
+pub fn unescape(args: &Args, output: &mut dyn Write) -> Result<Status, Failure> {
+    let to = args.option("--output");
+    let to_standard = to.map_or(false, |name| name == "-");
+    if to_standard && args.json() {
+        return Err(Failure::usage("--json and --output - exclude each other"));
     }
-    let mut text = format!("{:>8}  {:>11}\n", "place", "number");
-    for (place, number) in &numbers.found {
-        // Writing to a String cannot fail.
-        let _ = writeln!(text, "{:>8}  {:>11}", place, number);
-    }
-    let _ = writeln!(text, "next place: {}", numbers.next);
-    text
-}
-
-fn numbers_json(numbers: &Numbers) -> String {
-    let found = numbers
-        .found
-        .iter()
-        .map(|&(place, number)| Value::object([("place", place.into()), ("number", Value::Number(number))]));
-    let mut members = answer_members(numbers.refusal);
-    members.push(("numbers".to_string(), Value::List(found.collect())));
-    members.push(("next_place".to_string(), numbers.next.into()));
-    Value::Object(members).line()
-}
-
-/// The kind of bins to decode.
-enum Model {
-    Context(Context),
-    Bypass,
-    Stuffing,
-}
-
-impl Model {
-    fn asked_for(args: &Args) -> Result<Model, Failure> {
-        match (args.flag("--bypass"), args.flag("--stuffing")) {
-            (false, false) => Ok(Model::Context(Context::fresh())),
-            (true, false) => Ok(Model::Bypass),
-            (false, true) => Ok(Model::Stuffing),
-            (true, true) => Err(Failure::usage("--bypass and --stuffing exclude each other")),
+    let payload = unescaped(args)?;
+    match to {
+        Some(_) if to_standard => {
+            output.write_all(payload.bytes())?;
+            output.flush()?;
+            complain(&format!("{}: read them with --bits {}", bits(payload.bits()), payload.bits()));
+            return Ok(Status::Done);
         }
+        Some(name) => write(name, payload.bytes())?,
+        None => {}
     }
+    match args.json() {
+        true => unescape_json(output, &payload, to.is_none())?,
+        false => unescape_text(output, &payload, to.is_none())?,
+    }
+    Ok(Status::Done)
+}
 
-    fn bin(&mut self, payload: &Payload, state: &mut State) -> Result<bool, Reason> {
-        match self {
-            Model::Context(context) => avsplus::decode(&payload.bytes, payload.bits, state, context),
-            Model::Bypass => avsplus::bypass(&payload.bytes, payload.bits, state),
-            Model::Stuffing => avsplus::stuffing(&payload.bytes, payload.bits, state),
+fn unescape_text(output: &mut dyn Write, payload: &Payload<'_>, shown: bool) -> Written {
+    writeln!(output, "bits: {}", payload.bits())?;
+    if shown {
+        write!(output, "bytes: ")?;
+        write_hex(output, payload.bytes())?;
+        writeln!(output)?;
+    }
+    Ok(writeln!(output, "read with: --bits {}", payload.bits())?)
+}
+
+fn unescape_json(output: &mut dyn Write, payload: &Payload<'_>, shown: bool) -> Written {
+    json::line(output, |object| {
+        object.done(DONE)?;
+        object.put("bits", payload.bits())?;
+        match shown {
+            true => object.hex("hex", payload.bytes()),
+            false => object.put("hex", None::<u32>),
         }
-    }
-
-    fn context(&self) -> Option<Context> {
-        match self {
-            Model::Context(context) => Some(*context),
-            Model::Bypass | Model::Stuffing => None,
-        }
-    }
-}
-
-/// Decoded bins, the state and context after them, and the refusal that ended them.
-struct Bins {
-    found: Vec<bool>,
-    state: State,
-    context: Option<Context>,
-    refusal: Option<Refusal>,
-}
-
-/// `bins FILE --count K`: bins of the arithmetic decoder.
-pub fn bins(args: &Args) -> Result<Outcome, Failure> {
-    let mut model = Model::asked_for(args)?;
-    let count = args
-        .number_option("--count")?
-        .ok_or_else(|| Failure::usage("--count is missing"))?;
-    let payload = Payload::read(args)?;
-    let state = match avsplus::start(&payload.bytes, payload.bits) {
-        Ok(state) => state,
-        Err(reason) => return Ok(Outcome::refusal(&reason.into(), args.json())),
-    };
-    let bins = decode_bins(&payload, &mut model, state, count);
-    let output = if args.json() { bins_json(&bins) } else { bins_text(&bins) };
-    Ok(concluded(output, bins.refusal, args.json()))
-}
-
-/// Decodes bins until there are enough or one is refused.
-fn decode_bins(payload: &Payload, model: &mut Model, mut state: State, count: usize) -> Bins {
-    let mut found = Vec::new();
-    let mut refusal = None;
-    while found.len() < count && refusal.is_none() {
-        match model.bin(payload, &mut state) {
-            Ok(bin) => found.push(bin),
-            Err(reason) => refusal = Some(Refusal::from(reason)),
-        }
-    }
-    Bins {
-        found,
-        state,
-        context: model.context(),
-        refusal,
-    }
-}
-
-fn bins_text(bins: &Bins) -> String {
-    let digits: String = bins.found.iter().map(|&bin| if bin { '1' } else { '0' }).collect();
-    let State { rs, rt, vs, vt, place } = bins.state;
-    let mut text = format!(
-        "bins: {}\nstate: rS {}, rT {}, valueS {}, valueT {}, place {}\n",
-        digits, rs, rt, vs, vt, place
-    );
-    if let Some(Context { mps, lg, cycno }) = bins.context {
-        // Writing to a String cannot fail.
-        let _ = writeln!(text, "context: mps {}, lg {}, cycno {}", mps, lg, cycno);
-    }
-    text
-}
-
-fn bins_json(bins: &Bins) -> String {
-    let State { rs, rt, vs, vt, place } = bins.state;
-    let found = bins.found.iter().map(|&bin| Value::from(u32::from(bin)));
-    let state = [
-        ("rs", rs.into()),
-        ("rt", rt.into()),
-        ("vs", vs.into()),
-        ("vt", vt.into()),
-        ("place", place.into()),
-    ];
-    let context = bins.context.map(|context| {
-        Value::object([
-            ("mps", context.mps.into()),
-            ("lg", context.lg.into()),
-            ("cycno", context.cycno.into()),
-        ])
-    });
-    let mut members = answer_members(bins.refusal);
-    members.push(("bins".to_string(), Value::List(found.collect())));
-    members.push(("state".to_string(), Value::object(state)));
-    members.push(("context".to_string(), context.into()));
-    Value::Object(members).line()
-}
-
-fn answer_members(refusal: Option<Refusal>) -> Vec<(String, Value)> {
-    refusal.map_or_else(|| answer(DONE, 0), |refusal| refusal.members())
-}
-
-/// What was read, and the refusal that ended it: a JSON object holds both already.
-fn concluded(output: String, refusal: Option<Refusal>, json: bool) -> Outcome {
-    match refusal {
-        None => Outcome::done(output),
-        Some(_) if json => Outcome::refused(output),
-        Some(refusal) => Outcome::refused_after(output, &refusal),
-    }
+    })
 }

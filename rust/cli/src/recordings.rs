@@ -1,104 +1,166 @@
 //! The commands on recordings.
 
-use avsplus::{Reason, Refused};
+use std::io::Write;
+
+use avsplus::{Reason, Recording, Refused};
 
 use crate::args::Args;
-use crate::files::{hex, read_stream};
-use crate::json::Value;
-use crate::outcome::{answer, Failure, Outcome, Refusal};
-use crate::sheet::{group_json, group_text, units_json, units_text};
+use crate::failure::{Failure, Refusal, Site, Status, Written};
+use crate::files::read_stream;
+use crate::json::{self, write_hex};
+use crate::sheet::{group_json, group_text, unit_json, units_text};
 
 /// The answer to a good recording.
 const FILED: &str = "FILED";
+/// How many bytes of a refused recording are shown at most.
+const SHOWN: usize = 16;
+
+/// Files a recording, whose refusal says what it means for this one.
+pub fn file_stream(stream: &[u8]) -> Result<Recording<'_>, Failure> {
+    avsplus::file(stream).map_err(|refused| match Failure::from(refused) {
+        Failure::Refused(refusal) => Failure::Refused(meaning_for(stream, refusal)),
+        other => other,
+    })
+}
+
+fn meaning_for(stream: &[u8], refusal: Refusal) -> Refusal {
+    let meaning = match (refusal.reason, stream) {
+        (Reason::NoCode, []) => "there are no bytes".to_string(),
+        (Reason::NoCode, bytes) => format!("it begins with {}, not with 00 00 01", spaced(&bytes[..bytes.len().min(3)])),
+        (Reason::TooLong, _) => format!("{} of {}", refusal.meaning, avsplus::LONGEST_STREAM),
+        _ => return refusal,
+    };
+    refusal.meaning(meaning)
+}
+
+/// Bytes in hexadecimal, with spaces between them.
+fn spaced(bytes: &[u8]) -> String {
+    let bytes: Vec<String> = bytes.iter().map(|byte| format!("{:02X}", byte)).collect();
+    bytes.join(" ")
+}
 
 /// `file REC`: the sheet.
-pub fn file(args: &Args) -> Result<Outcome, Failure> {
+pub fn file(args: &Args, output: &mut dyn Write) -> Result<Status, Failure> {
     let stream = read_stream(args.operand(0))?;
-    let recording = match avsplus::file(&stream) {
+    let recording = match file_stream(&stream) {
         Ok(recording) => recording,
-        Err(refused) => return Ok(refused_sheet(refused, args.json())),
+        Err(Failure::Refused(refusal)) if !args.json() => return refused_sheet(output, &stream, &refusal),
+        Err(other) => return Err(other),
     };
-    if args.json() {
-        let groups = recording.groups().enumerate().map(|(g, group)| group_json(g, &group));
-        let mut members = answer(FILED, 0);
-        members.push(("units".to_string(), units_json(&recording)));
-        members.push(("groups".to_string(), Value::List(groups.collect())));
-        return Ok(Outcome::done(Value::Object(members).line()));
+    match args.json() {
+        true => sheet_json(output, &recording)?,
+        false => sheet_text(output, &recording)?,
     }
-    let mut text = format!("answer: {} (0)\nunits: {}\n\n", FILED, recording.unit_count());
-    text.push_str(&units_text(&recording));
-    for (g, group) in recording.groups().enumerate() {
-        text.push('\n');
-        text.push_str(&group_text(g, &group));
+    Ok(Status::Done)
+}
+
+fn sheet_json(output: &mut dyn Write, recording: &Recording<'_>) -> Written {
+    json::line(output, |object| {
+        object.done(FILED)?;
+        object.put("bytes", recording.stream().len())?;
+        object.objects("units", recording.units(), unit_json)?;
+        object.objects("groups", 0..recording.groups().len(), |o, g| group_json(o, recording, g))
+    })
+}
+
+fn sheet_text(output: &mut dyn Write, recording: &Recording<'_>) -> Written {
+    let groups = recording.groups().len();
+    writeln!(output, "answer: {} (0)", FILED)?;
+    writeln!(output, "bytes: {}", recording.stream().len())?;
+    writeln!(output, "units: {}", recording.units().len())?;
+    writeln!(output, "groups: {}\n", groups)?;
+    units_text(output, recording)?;
+    for g in 0..groups {
+        writeln!(output)?;
+        group_text(output, recording, g)?;
     }
-    Ok(Outcome::done(text))
+    Ok(())
 }
 
 /// The sheet of a refused recording is a result too, so it goes to standard output.
-fn refused_sheet(refused: Refused, json: bool) -> Outcome {
-    let refusal = Refusal::from(refused);
-    if json {
-        return Outcome::refusal(&refusal, true);
+fn refused_sheet(output: &mut dyn Write, stream: &[u8], refusal: &Refusal) -> Result<Status, Failure> {
+    writeln!(output, "answer: {}\nreason: {}", refusal.answer(), refusal.meaning)?;
+    match stream.len() > avsplus::LONGEST_STREAM {
+        true => writeln!(output, "bytes: more than {}", avsplus::LONGEST_STREAM)?,
+        false => writeln!(output, "bytes: {}", stream.len())?,
     }
-    Outcome::refused(format!(
-        "answer: {}\nreason: {}\n",
-        refusal.answer(),
-        refused.reason.meaning()
-    ))
+    let there = match refusal.site {
+        Some(Site::Byte(offset)) => stream.get(offset..).unwrap_or_default(),
+        _ => &[],
+    };
+    if !there.is_empty() {
+        let more = if there.len() > SHOWN { " .." } else { "" };
+        writeln!(output, "there: {}{}", spaced(&there[..there.len().min(SHOWN)]), more)?;
+    }
+    Ok(Status::Refused)
 }
 
 /// `units REC`: the units' table.
-pub fn units(args: &Args) -> Result<Outcome, Failure> {
+pub fn units(args: &Args, output: &mut dyn Write) -> Result<Status, Failure> {
     let stream = read_stream(args.operand(0))?;
-    let recording = match avsplus::file(&stream) {
-        Ok(recording) => recording,
-        Err(refused) => return Ok(Outcome::refusal(&refused.into(), args.json())),
-    };
-    if args.json() {
-        let mut members = answer(FILED, 0);
-        members.push(("units".to_string(), units_json(&recording)));
-        return Ok(Outcome::done(Value::Object(members).line()));
+    let recording = file_stream(&stream)?;
+    match args.json() {
+        true => json::line(output, |object| {
+            object.done(FILED)?;
+            object.objects("units", recording.units(), unit_json)
+        })?,
+        false => units_text(output, &recording)?,
     }
-    Ok(Outcome::done(units_text(&recording)))
+    Ok(Status::Done)
 }
 
 /// `header REC [--group G]`: one group.
-pub fn header(args: &Args) -> Result<Outcome, Failure> {
+pub fn header(args: &Args, output: &mut dyn Write) -> Result<Status, Failure> {
     let g = args.number_option("--group")?.unwrap_or(0);
     let stream = read_stream(args.operand(0))?;
-    let group = match avsplus::group(&stream, g) {
-        Ok(group) => group,
-        Err(refused) => return Ok(Outcome::refusal(&refused.into(), args.json())),
-    };
-    Ok(Outcome::done(match args.json() {
-        true => group_json(g, &group).line(),
-        false => group_text(g, &group),
-    }))
+    let recording = file_stream(&stream)?;
+    let groups = recording.groups().len();
+    if g >= groups {
+        return Err(no_row(format!("there is no group {}, only {}", g, counted(groups, "group"))));
+    }
+    match args.json() {
+        true => json::line(output, |object| {
+            object.done(FILED)?;
+            group_json(object, &recording, g)
+        })?,
+        false => group_text(output, &recording, g)?,
+    }
+    Ok(Status::Done)
+}
+
+/// NO ROW, with what there is.
+fn no_row(meaning: String) -> Failure {
+    Failure::Refused(Refusal::from(Refused::from(Reason::NoRow)).meaning(meaning))
+}
+
+fn counted(count: usize, name: &str) -> String {
+    format!("{} {}{}", count, name, if count == 1 { "" } else { "s" })
+}
+
+/// Unit `n` of a filed recording.
+pub fn unit<'a>(recording: &Recording<'a>, n: usize) -> Result<avsplus::Unit<'a>, Failure> {
+    let units = recording.units().len();
+    recording
+        .unit(n)
+        .map_err(|_| no_row(format!("there is no unit {}, only {}", n, counted(units, "unit"))))
 }
 
 /// `body REC N`: the body of one unit.
-pub fn body(args: &Args) -> Result<Outcome, Failure> {
+pub fn body(args: &Args, output: &mut dyn Write) -> Result<Status, Failure> {
     let n = args.number_operand(1, "N")?;
     let stream = read_stream(args.operand(0))?;
-    let unit = match avsplus::file(&stream) {
-        Ok(recording) => recording.unit(n),
-        Err(refused) => return Ok(Outcome::refusal(&refused.into(), args.json())),
-    };
-    let unit = match unit {
-        Some(unit) => unit,
-        None => return Ok(Outcome::refusal(&Reason::NoRow.into(), args.json())),
-    };
+    let unit = unit(&file_stream(&stream)?, n)?;
     if args.json() {
-        let members = [
-            ("unit", n.into()),
-            ("offset", unit.offset.into()),
-            ("length", unit.body.len().into()),
-            ("hex", hex(unit.body).into()),
-        ];
-        return Ok(Outcome::done(Value::object(members).line()));
+        json::line(output, |object| {
+            object.done(FILED)?;
+            unit_json(object, unit)?;
+            object.hex("hex", unit.body)
+        })?;
+    } else if args.flag("--hex") {
+        write_hex(output, unit.body)?;
+        writeln!(output)?;
+    } else {
+        output.write_all(unit.body)?;
     }
-    Ok(match args.flag("--hex") {
-        true => Outcome::done(format!("{}\n", hex(unit.body))),
-        false => Outcome::done(unit.body),
-    })
+    Ok(Status::Done)
 }

@@ -1,214 +1,305 @@
 //! The sheet of a recording: its units and its groups, as text and as JSON.
+//!
+//! Every number is read from the stream, with its first bit and its width beside it, or worked out from such numbers, with how
+//! beside it. Values come from the library; places from its tables of fields.
 
-use std::fmt::Write;
+use std::fmt::Display;
+use std::io::Write;
 
-use avsplus::fields::{self, Field, DISPLAY, DISPLAY_WITH_COLOUR, SEQUENCE_HEADER};
-use avsplus::{DisplayExtension, Group, Ratio, Recording, SequenceHeader};
+use avsplus::fields::{self, Field, COPYRIGHT, DISPLAY, DISPLAY_WITH_COLOUR, SEQUENCE_HEADER};
+use avsplus::{
+    sequence_header, Colour, CopyrightExtension, DisplayExtension, DisplayRatio, Extension, Kind, Ratio, Recording,
+    SequenceHeader, Unit,
+};
 
-use crate::json::Value;
+use crate::failure::{Failure, Written};
+use crate::json::Object;
 
-const NOT_GIVEN: &str = "not given";
+/// The low part of a bit rate has so many values: 18 bits.
+const BIT_RATE_LOW: u32 = 1 << 18;
+/// The second and third part of a copyright number have so many bits.
+const COPYRIGHT_PART: u32 = 22;
 
-/// A line of a group's table: a name, where its parts lie in the body, and its value.
-struct Line {
-    name: &'static str,
-    parts: Vec<Field>,
-    value: String,
-}
-
-impl Line {
-    /// A field of a layout.
-    fn field(layout: &[Field], name: &'static str, value: impl ToString) -> Line {
-        Line::of_parts(layout, name, &[name], value)
-    }
-
-    /// A value put together from several fields.
-    fn of_parts(layout: &[Field], name: &'static str, parts: &[&str], value: impl ToString) -> Line {
-        let parts = parts.iter().filter_map(|part| fields::find(layout, part)).collect();
-        Line {
-            name,
-            parts,
-            value: value.to_string(),
-        }
-    }
-
-    /// A value that follows from the fields.
-    fn derived(name: &'static str, value: impl ToString) -> Line {
-        Line {
-            name,
-            parts: Vec::new(),
-            value: value.to_string(),
-        }
-    }
-
-    fn text(&self) -> String {
-        let first_bits = joined(self.parts.iter().map(|part| part.first_bit));
-        let widths = joined(self.parts.iter().map(|part| part.width));
-        format!("  {:<20}{:>9}{:>8}  {}\n", self.name, first_bits, widths, self.value)
-    }
-}
-
-fn joined(numbers: impl Iterator<Item = u32>) -> String {
-    let numbers: Vec<String> = numbers.map(|number| number.to_string()).collect();
-    numbers.join(", ")
-}
+// ── units ──
 
 /// The table of a recording's units.
-pub fn units_text(recording: &Recording<'_>) -> String {
-    let mut text = format!(
-        "{:>6}  {:<4}  {:<15}{:>10}{:>10}\n",
-        "unit", "code", "kind", "offset", "length"
-    );
-    for (i, unit) in recording.units().enumerate() {
-        let length = unit.body.len();
-        // Writing to a String cannot fail.
-        let _ = writeln!(
-            text,
-            "{:>6}  {:<4}  {:<15}{:>10}{:>10}",
-            i,
-            format!("{:02X}", unit.code),
-            unit.kind,
-            unit.offset,
-            length
-        );
+pub fn units_text(output: &mut dyn Write, recording: &Recording<'_>) -> Written {
+    writeln!(
+        output,
+        "{:>8}  {:>6}  {:<4}  {:<21}{:>10}{:>10}{:>8}",
+        "unit", "group", "code", "kind", "offset", "length", "zeros"
+    )?;
+    for unit in recording.units() {
+        write!(output, "{:>8}  ", unit.index)?;
+        match unit.group {
+            Some(group) => write!(output, "{:>6}", group)?,
+            None => write!(output, "{:>6}", "-")?,
+        }
+        write!(output, "  {:02X}    ", unit.code)?;
+        match unit.extension()? {
+            Some(extension) => write!(output, "{:<21}", extension)?,
+            None => write!(output, "{:<21}", unit.kind)?,
+        }
+        writeln!(output, "{:>10}{:>10}{:>8}", unit.offset, unit.body.len(), unit.trailing_zeros)?;
     }
-    text
+    Ok(())
 }
 
-/// The units as a JSON list.
-pub fn units_json(recording: &Recording<'_>) -> Value {
-    let units = recording.units().enumerate().map(|(i, unit)| {
-        Value::object([
-            ("unit", i.into()),
-            ("code", u32::from(unit.code).into()),
-            ("kind", unit.kind.name().into()),
-            ("offset", unit.offset.into()),
-            ("length", unit.body.len().into()),
-        ])
-    });
-    Value::List(units.collect())
-}
-
-/// The tables of a group.
-pub fn group_text(g: usize, group: &Group) -> String {
-    let mut text = format!("group {}\n", g);
-    text.push_str(&table("sequence header", &header_lines(&group.header)));
-    text.push('\n');
-    match &group.display {
-        Some(display) => text.push_str(&table("display extension", &display_lines(display))),
-        None => text.push_str("  display extension: not given\n"),
+/// The units as members of JSON objects.
+pub fn unit_json(object: &mut Object, unit: Unit<'_>) -> Written {
+    object.put("unit", unit.index)?;
+    object.put("group", unit.group)?;
+    object.put("in_head", unit.in_head)?;
+    object.put("code", u32::from(unit.code))?;
+    object.put("kind", unit.kind.name())?;
+    if let Some(extension) = unit.extension()? {
+        object.object("extension", |o| {
+            o.put("number", u32::from(extension.number()))?;
+            o.put("kind", extension_kind(&extension))
+        })?;
     }
-    text
+    object.put("offset", unit.offset)?;
+    object.put("length", unit.body.len())?;
+    object.put("trailing_zeros", unit.trailing_zeros)
 }
 
-fn table(title: &str, lines: &[Line]) -> String {
-    let mut text = format!("  {:<20}{:>9}{:>8}  {}\n", title, "first bit", "width", "value");
-    text.extend(lines.iter().map(Line::text));
-    text
+fn extension_kind(extension: &Extension) -> &'static str {
+    match extension {
+        Extension::Display(_) => "display",
+        Extension::Copyright(_) => "copyright",
+        Extension::Opaque(_) => "opaque",
+    }
 }
 
-fn header_lines(header: &SequenceHeader) -> Vec<Line> {
-    let field = |name, value| Line::field(&SEQUENCE_HEADER, name, value);
-    let bit_rate = ["bit rate low", "bit rate high"];
-    vec![
-        field("profile", header.profile),
-        field("level", header.level),
-        field("progressive", u32::from(header.progressive)),
-        field("horizontal size", header.horizontal_size),
-        field("vertical size", header.vertical_size),
-        field("chroma format", header.chroma_format),
-        field("precision", header.precision),
-        field("aspect", header.aspect),
-        field("frame rate code", header.frame_rate_code),
-        Line::of_parts(&SEQUENCE_HEADER, "bit rate", &bit_rate, header.bit_rate),
-        field("low delay", u32::from(header.low_delay)),
-        field("buffer size", header.buffer_size),
-        Line::derived("macroblock columns", header.macroblock_columns),
-        Line::derived("macroblock rows", header.macroblock_rows),
-        Line::derived("frame rate", ratio_text(header.frame_rate())),
-        Line::derived("display ratio", ratio_text(header.display_ratio())),
-    ]
+// ── groups as text ──
+
+/// The tables of group `g`: its sequence header, its display extension and its copyright extensions, in the order of their units.
+pub fn group_text(output: &mut dyn Write, recording: &Recording<'_>, g: usize) -> Written {
+    writeln!(output, "group {}", g)?;
+    let (mut display_given, mut copyright_given) = (false, false);
+    for unit in recording.units_of(g) {
+        if unit.kind == Kind::SequenceHeader {
+            header_text(output, unit.index, &sequence_header(unit.body)?)?;
+        }
+        match unit.extension()? {
+            Some(Extension::Display(display)) => {
+                display_given = true;
+                display_text(output, unit.index, &display)?;
+            }
+            Some(Extension::Copyright(copyright)) => {
+                copyright_given = true;
+                copyright_text(output, unit.index, &copyright)?;
+            }
+            Some(Extension::Opaque(_)) | None => {}
+        }
+    }
+    for (name, given) in [("display", display_given), ("copyright", copyright_given)] {
+        if !given {
+            writeln!(output, "\n  {} extension: not given", name)?;
+        }
+    }
+    Ok(())
 }
 
-fn display_lines(display: &DisplayExtension) -> Vec<Line> {
-    let layout: &[Field] = if display.colour.is_some() {
-        &DISPLAY_WITH_COLOUR
-    } else {
-        &DISPLAY
+/// A table of fields that is being written.
+struct Table<'w> {
+    output: &'w mut dyn Write,
+    layout: &'static [Field],
+}
+
+impl<'w> Table<'w> {
+    fn begin(output: &'w mut dyn Write, unit: usize, title: &str, layout: &'static [Field]) -> Result<Table<'w>, Failure> {
+        writeln!(output, "\n  unit {}: {}", unit, title)?;
+        writeln!(output, "    {:<20}{:>9}{:>8}  value", "field", "first bit", "width")?;
+        Ok(Table { output, layout })
+    }
+
+    /// A field of the layout, as it is in the stream.
+    fn field(&mut self, name: &str, value: impl Display) -> Written {
+        match fields::find(self.layout, name) {
+            Some(field) => writeln!(
+                self.output,
+                "    {:<20}{:>9}{:>8}  {}",
+                name, field.first_bit, field.width, value
+            )?,
+            None => writeln!(self.output, "    {:<37}  {}", name, value)?,
+        }
+        Ok(())
+    }
+
+    /// A value that follows from fields, and how.
+    fn worked_out(&mut self, name: &str, value: impl Display, how: impl Display) -> Written {
+        Ok(writeln!(self.output, "    {:<37}  {}  worked out: {}", name, value, how)?)
+    }
+}
+
+fn header_text(output: &mut dyn Write, unit: usize, header: &SequenceHeader) -> Written {
+    let mut table = Table::begin(output, unit, "sequence header", &SEQUENCE_HEADER)?;
+    let (high, low) = (header.bit_rate / BIT_RATE_LOW, header.bit_rate % BIT_RATE_LOW);
+    table.field("profile", header.profile)?;
+    table.field("level", header.level)?;
+    table.field("progressive", u32::from(header.progressive))?;
+    table.field("horizontal size", header.horizontal_size)?;
+    table.field("vertical size", header.vertical_size)?;
+    table.field("chroma format", header.chroma_format)?;
+    table.field("precision", header.precision)?;
+    table.field("aspect", header.aspect)?;
+    table.field("frame rate code", header.frame_rate_code)?;
+    table.field("bit rate low", low)?;
+    table.field("bit rate high", high)?;
+    table.field("low delay", u32::from(header.low_delay))?;
+    table.field("buffer size", header.buffer_size)?;
+    table.worked_out(
+        "bit rate",
+        header.bit_rate,
+        format_args!("{} x {} + {}", high, BIT_RATE_LOW, low),
+    )?;
+    let sixteenth = |size: u32| format!("({} + 15) / 16", size);
+    table.worked_out(
+        "macroblock columns",
+        header.macroblock_columns,
+        sixteenth(header.horizontal_size),
+    )?;
+    table.worked_out("macroblock rows", header.macroblock_rows, sixteenth(header.vertical_size))?;
+    table.worked_out(
+        "frame rate",
+        header.frame_rate,
+        format_args!("frame rate code {}", header.frame_rate_code),
+    )?;
+    table.worked_out(
+        "display ratio",
+        header.display_ratio,
+        format_args!("aspect {}", header.aspect),
+    )
+}
+
+fn display_text(output: &mut dyn Write, unit: usize, display: &DisplayExtension) -> Written {
+    let layout: &[Field] = match display.colour {
+        Some(_) => &DISPLAY_WITH_COLOUR,
+        None => &DISPLAY,
     };
-    let field = |name, value| Line::field(layout, name, value);
-    let colour = if display.colour.is_some() { "given" } else { NOT_GIVEN };
-    let mut lines = vec![
-        field("format", display.format),
-        field("range", display.range),
-        Line::of_parts(layout, "colour", &["colour given"], colour),
-    ];
-    if let Some(colour) = display.colour {
-        lines.push(field("primaries", colour.primaries));
-        lines.push(field("transfer", colour.transfer));
-        lines.push(field("matrix", colour.matrix));
+    let mut table = Table::begin(output, unit, "display extension", layout)?;
+    table.field("format", display.format)?;
+    table.field("range", display.range)?;
+    table.field("colour given", u32::from(display.colour.is_some()))?;
+    match display.colour {
+        Some(colour) => {
+            table.field("primaries", colour.primaries)?;
+            table.field("transfer", colour.transfer)?;
+            table.field("matrix", colour.matrix)?;
+        }
+        None => table.field("colour", "not given")?,
     }
-    lines.push(field("width", display.width));
-    lines.push(field("height", display.height));
-    lines.push(field("stereo", display.stereo));
-    lines
+    table.field("width", display.width)?;
+    table.field("height", display.height)?;
+    table.field("stereo", display.stereo)
 }
 
-fn ratio_text(ratio: Option<Ratio>) -> String {
-    ratio.map_or(NOT_GIVEN.to_string(), |ratio| ratio.to_string())
+/// The three parts of a copyright number.
+fn copyright_parts(number: u64) -> [u64; 3] {
+    let part = (1 << COPYRIGHT_PART) - 1;
+    [number >> (2 * COPYRIGHT_PART), number >> COPYRIGHT_PART & part, number & part]
 }
 
-/// A group as a JSON object.
-pub fn group_json(g: usize, group: &Group) -> Value {
-    Value::object([
-        ("group", g.into()),
-        ("header", header_json(&group.header)),
-        ("frame_rate", group.header.frame_rate().map(ratio_json).into()),
-        ("display_ratio", group.header.display_ratio().map(ratio_json).into()),
-        ("display", group.display.map(display_json).into()),
-    ])
+fn copyright_text(output: &mut dyn Write, unit: usize, copyright: &CopyrightExtension) -> Written {
+    let mut table = Table::begin(output, unit, "copyright extension", &COPYRIGHT)?;
+    let [one, two, three] = copyright_parts(copyright.number);
+    table.field("flag", u32::from(copyright.flag))?;
+    table.field("owner", copyright.owner)?;
+    table.field("original", u32::from(copyright.original))?;
+    table.field("part one", one)?;
+    table.field("part two", two)?;
+    table.field("part three", three)?;
+    table.worked_out(
+        "copyright number",
+        copyright.number,
+        format_args!("{} x 2^44 + {} x 2^22 + {}", one, two, three),
+    )
 }
 
-fn header_json(header: &SequenceHeader) -> Value {
-    Value::object([
-        ("profile", header.profile.into()),
-        ("level", header.level.into()),
-        ("progressive", u32::from(header.progressive).into()),
-        ("horizontal_size", header.horizontal_size.into()),
-        ("vertical_size", header.vertical_size.into()),
-        ("chroma_format", header.chroma_format.into()),
-        ("precision", header.precision.into()),
-        ("aspect", header.aspect.into()),
-        ("frame_rate_code", header.frame_rate_code.into()),
-        ("bit_rate", header.bit_rate.into()),
-        ("low_delay", u32::from(header.low_delay).into()),
-        ("buffer_size", header.buffer_size.into()),
-        ("macroblock_columns", header.macroblock_columns.into()),
-        ("macroblock_rows", header.macroblock_rows.into()),
-    ])
-}
+// ── groups as JSON ──
 
-fn display_json(display: DisplayExtension) -> Value {
-    let colour = display.colour.map(|colour| {
-        Value::object([
-            ("primaries", colour.primaries.into()),
-            ("transfer", colour.transfer.into()),
-            ("matrix", colour.matrix.into()),
-        ])
+/// Group `g` as members of a JSON object.
+pub fn group_json(object: &mut Object, recording: &Recording<'_>, g: usize) -> Written {
+    let group = recording.group(g)?;
+    object.put("group", g)?;
+    object.put("unit", recording.units_of(g).next().map(|unit| unit.index))?;
+    object.object("header", |o| header_json(o, &group.header))?;
+    object.object("worked_out", |o| worked_out_json(o, &group.header))?;
+    match &group.display {
+        Some(display) => object.object("display", |o| display_json(o, display))?,
+        None => object.put("display", None::<u32>)?,
+    }
+    let copyrights = recording.units_of(g).filter_map(|unit| match unit.extension() {
+        Ok(Some(Extension::Copyright(copyright))) => Some(Ok((unit, copyright))),
+        Ok(_) => None,
+        Err(refused) => Some(Err(refused)),
     });
-    Value::object([
-        ("format", display.format.into()),
-        ("range", display.range.into()),
-        ("colour", colour.into()),
-        ("width", display.width.into()),
-        ("height", display.height.into()),
-        ("stereo", display.stereo.into()),
-    ])
+    object.objects("copyrights", copyrights, |o, found| {
+        let (unit, copyright) = found?;
+        copyright_json(o, unit.index, &copyright)
+    })
 }
 
-fn ratio_json(ratio: Ratio) -> Value {
-    Value::object([
-        ("numerator", ratio.numerator.into()),
-        ("denominator", ratio.denominator.into()),
-    ])
+fn header_json(object: &mut Object, header: &SequenceHeader) -> Written {
+    object.put("profile", header.profile)?;
+    object.put("level", header.level)?;
+    object.put("progressive", u32::from(header.progressive))?;
+    object.put("horizontal_size", header.horizontal_size)?;
+    object.put("vertical_size", header.vertical_size)?;
+    object.put("chroma_format", header.chroma_format)?;
+    object.put("precision", header.precision)?;
+    object.put("aspect", header.aspect)?;
+    object.put("frame_rate_code", header.frame_rate_code)?;
+    object.put("bit_rate_low", header.bit_rate % BIT_RATE_LOW)?;
+    object.put("bit_rate_high", header.bit_rate / BIT_RATE_LOW)?;
+    object.put("low_delay", u32::from(header.low_delay))?;
+    object.put("buffer_size", header.buffer_size)
+}
+
+fn worked_out_json(object: &mut Object, header: &SequenceHeader) -> Written {
+    object.put("bit_rate", header.bit_rate)?;
+    object.put("macroblock_columns", header.macroblock_columns)?;
+    object.put("macroblock_rows", header.macroblock_rows)?;
+    object.object("frame_rate", |o| ratio_json(o, &header.frame_rate))?;
+    match &header.display_ratio {
+        DisplayRatio::Ratio(ratio) => object.object("display_ratio", |o| ratio_json(o, ratio)),
+        DisplayRatio::SquareSamples => object.put("display_ratio", header.display_ratio.to_string()),
+    }
+}
+
+fn ratio_json(object: &mut Object, ratio: &Ratio) -> Written {
+    object.put("numerator", ratio.numerator)?;
+    object.put("denominator", ratio.denominator)
+}
+
+fn display_json(object: &mut Object, display: &DisplayExtension) -> Written {
+    object.put("format", display.format)?;
+    object.put("range", display.range)?;
+    match display.colour {
+        Some(colour) => object.object("colour", |o| colour_json(o, colour))?,
+        None => object.put("colour", None::<u32>)?,
+    }
+    object.put("width", display.width)?;
+    object.put("height", display.height)?;
+    object.put("stereo", display.stereo)
+}
+
+fn colour_json(object: &mut Object, colour: Colour) -> Written {
+    object.put("primaries", colour.primaries)?;
+    object.put("transfer", colour.transfer)?;
+    object.put("matrix", colour.matrix)
+}
+
+/// The number as a text: it has up to 64 bits, and readers of JSON round what is over 2^53.
+fn copyright_json(object: &mut Object, unit: usize, copyright: &CopyrightExtension) -> Written {
+    let [one, two, three] = copyright_parts(copyright.number);
+    object.put("unit", unit)?;
+    object.put("flag", u32::from(copyright.flag))?;
+    object.put("owner", copyright.owner)?;
+    object.put("original", u32::from(copyright.original))?;
+    for (name, part) in [("part_one", one), ("part_two", two), ("part_three", three)] {
+        object.put(name, part as i64)?;
+    }
+    object.object("worked_out", |o| o.put("number", copyright.number.to_string()))
 }

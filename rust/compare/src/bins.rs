@@ -1,6 +1,6 @@
 //! Bins: runs from a start on, and single steps from any state.
 
-use avsplus::raw::{Context, State, AVSPLUS_DONE, AVSPLUS_LONGEST_PAYLOAD};
+use avsplus_sys::{Context, State, AVSPLUS_DONE, AVSPLUS_LONGEST_PAYLOAD};
 use independent::generate::{bins_payload, context, state, Random};
 
 use crate::comparison::{alone, Comparison};

@@ -1,6 +1,6 @@
 //! Single bodies, and the codes that stand for ratios and kinds.
 
-use avsplus::raw::{AVSPLUS_EXTENSION_WITH_COLOUR, AVSPLUS_HEADER_NUMBERS, AVSPLUS_LONGEST_STREAM, AVSPLUS_RATIO_NUMBERS};
+use avsplus_sys::{AVSPLUS_EXTENSION_WITH_COLOUR, AVSPLUS_HEADER_NUMBERS, AVSPLUS_LONGEST_STREAM, AVSPLUS_RATIO_NUMBERS};
 use independent::generate::{extension_body, header_body, Random};
 
 use crate::comparison::{alone, rooms, Comparison, ALL_ROOMS};

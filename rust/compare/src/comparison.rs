@@ -2,7 +2,7 @@
 
 use std::fmt::Debug;
 
-use avsplus::raw::{
+use avsplus_sys::{
     Answer, Bin, Context, Golomb, PairBin, Part, PlainBin, SignedNumber, Started, AVSPLUS_DONE, AVSPLUS_NO_KIND,
     AVSPLUS_NO_ROW, AVSPLUS_UNKNOWN,
 };

@@ -1,6 +1,6 @@
 //! A decoder: for each question a function, with what it answers and what it writes into lent memory as the C interface has it.
 
-use avsplus::raw::{
+use avsplus_sys::{
     Answer, Bin, Context, Golomb, PairBin, Part, PlainBin, SignedNumber, Started, State, AVSPLUS_DONE, AVSPLUS_FULL,
     AVSPLUS_NO_BIN, AVSPLUS_NO_NUMBER, AVSPLUS_NO_SIGNED_NUMBER,
 };

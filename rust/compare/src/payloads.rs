@@ -1,6 +1,6 @@
 //! Start codes, escape bits and Exp-Golomb numbers.
 
-use avsplus::raw::AVSPLUS_LONGEST_PAYLOAD;
+use avsplus_sys::AVSPLUS_LONGEST_PAYLOAD;
 use independent::generate::{payload, Random};
 
 use crate::comparison::{lend, rooms, Comparison};

@@ -1,6 +1,6 @@
 //! The independent decoder, its answers put as the C interface has them.
 
-use avsplus::raw::{
+use avsplus_sys::{
     Answer, Bin, Context, Golomb, PairBin, Part, PlainBin, SignedNumber, Started, State, AVSPLUS_DONE, AVSPLUS_EDIT_CODE,
     AVSPLUS_EXTENSION_UNIT, AVSPLUS_I_PICTURE, AVSPLUS_NO_KIND, AVSPLUS_PB_PICTURE, AVSPLUS_SEQUENCE_END,
     AVSPLUS_SEQUENCE_HEADER, AVSPLUS_SLICE, AVSPLUS_USER_DATA,

@@ -1,6 +1,6 @@
 //! Whole streams: filing, rows and groups.
 
-use avsplus::raw::{AVSPLUS_DONE, AVSPLUS_GROUP_PLAIN, AVSPLUS_GROUP_WITH_COLOUR, AVSPLUS_LONGEST_STREAM, AVSPLUS_ROW_WORDS};
+use avsplus_sys::{AVSPLUS_DONE, AVSPLUS_GROUP_PLAIN, AVSPLUS_GROUP_WITH_COLOUR, AVSPLUS_LONGEST_STREAM, AVSPLUS_ROW_WORDS};
 use independent::generate::{damaged, stream, Random};
 
 use crate::comparison::{alone, lend, rooms, Comparison, ALL_ROOMS};

@@ -1,11 +1,9 @@
 //! The safe crate, its answers put back as the C interface has them.
 
-use avsplus::raw::{
-    Answer, Bin, Context, Golomb, PairBin, Part, PlainBin, SignedNumber, Started, State, AVSPLUS_DONE, AVSPLUS_EDIT_CODE,
-    AVSPLUS_EXTENSION_UNIT, AVSPLUS_I_PICTURE, AVSPLUS_NO_KIND, AVSPLUS_PB_PICTURE, AVSPLUS_SEQUENCE_END,
-    AVSPLUS_SEQUENCE_HEADER, AVSPLUS_SLICE, AVSPLUS_USER_DATA,
+use avsplus::{DisplayExtension, Extension, Group, Kind, Payload, Ratio, Recording, Refused, Scope, SequenceHeader, Unit};
+use avsplus_sys::{
+    Answer, Bin, Context, Golomb, PairBin, Part, PlainBin, SignedNumber, Started, State, AVSPLUS_DONE, AVSPLUS_NO_KIND,
 };
-use avsplus::{DisplayExtension, Extension, Group, Kind, Ratio, Reason, Refused, Scope, SequenceHeader, Unit};
 
 use crate::decoder::{self, done, hand_over, refused, Decoder};
 
@@ -14,7 +12,7 @@ pub const WRAPPED: Decoder = Decoder {
     name: "safe crate",
     check: |stream| avsplus::check(stream).map_or_else(stream_refused, done),
     file,
-    row_exists: avsplus::row_exists,
+    row_exists: |stream, rows, i| avsplus::row_exists(stream, rows, i) == Ok(true),
     row_body,
     group: |stream, g, lent| group(avsplus::group(stream, g), lent),
     sequence_header,
@@ -22,23 +20,24 @@ pub const WRAPPED: Decoder = Decoder {
     frame_rate: |code, lent| ratio(avsplus::frame_rate(code), lent),
     display_ratio: |aspect, lent| ratio(avsplus::display_ratio(aspect), lent),
     remove_escapes,
-    unsigned_golomb: |bytes, bits, place| unsigned_golomb(avsplus::unsigned_golomb(bytes, bits, place), place),
-    signed_golomb: |bytes, bits, place| signed_golomb(avsplus::signed_golomb(bytes, bits, place), place),
-    fresh_context: Context::fresh,
+    unsigned_golomb,
+    signed_golomb,
+    fresh_context: || to_context(avsplus::Context::FRESH),
     start,
     decode,
     decode_pair,
-    bypass: |bytes, bits, state| plain(avsplus::bypass, bytes, bits, state),
-    stuffing: |bytes, bits, state| plain(avsplus::stuffing, bytes, bits, state),
-    next_start_code: avsplus::next_start_code,
-    kind,
+    bypass: |bytes, bits, state| plain(|payload, state| payload.bypass(state), bytes, bits, state),
+    stuffing: |bytes, bits, state| plain(|payload, state| payload.stuffing(state), bytes, bits, state),
+    // No stream is so long: a refusal is a difference.
+    next_start_code: |stream, from| avsplus::next_start_code(stream, from).unwrap_or(usize::MAX),
+    kind: |code| Kind::of(code).map_or(AVSPLUS_NO_KIND, Kind::number),
 };
 
 /// The same with rows and groups taken from a filed recording and its units: groups by number where an odd room is lent, else
 /// among all groups.
 pub const RECORDING: Decoder = Decoder {
     name: "safe crate's recording",
-    check: |stream| avsplus::file(stream).map_or_else(stream_refused, |recording| done(recording.unit_count())),
+    check: |stream| avsplus::file(stream).map_or_else(stream_refused, |recording| done(recording.units().len())),
     file: recording_rows,
     group: |stream, g, lent| match lent.len() % 2 {
         0 => group(recording_groups(stream, g), lent),
@@ -47,8 +46,19 @@ pub const RECORDING: Decoder = Decoder {
     ..WRAPPED
 };
 
+/// The status of a refusal; a reason without a number is a difference.
+fn status(refusal: Refused) -> u32 {
+    refusal.reason.number().unwrap_or(u32::MAX)
+}
+
+/// A refusal with its offset, or without one.
 fn stream_refused(refusal: Refused) -> Answer {
-    refused(refusal.reason.number(), refusal.offset)
+    refused(status(refusal), refusal.offset.unwrap_or(0))
+}
+
+/// A refusal of a body or of a payload, which has no offset: one is a difference.
+fn body_refused(refusal: Refused) -> Answer {
+    refused(status(refusal), refusal.offset.map_or(0, |_| usize::MAX))
 }
 
 fn file(stream: &[u8], rows: &mut [u32]) -> Answer {
@@ -71,39 +81,73 @@ fn row_body(stream: &[u8], rows: &[u32], i: usize) -> Part {
 /// A unit's row; the offset is that of its body, less the start code and its code byte, where the unit says the same.
 fn row(stream: &[u8], unit: &Unit) -> [u32; 3] {
     let body = part(stream, unit.body);
-    let same = body.offset == unit.offset + 4 && kind_number(Some(unit.kind)) == kind(unit.code);
+    let same = body.offset == unit.offset + 4 && Some(unit.kind) == Kind::of(unit.code) && zeros_follow(stream, unit);
     let offset = if same { unit.offset as u32 } else { u32::MAX };
     [unit.code.into(), offset, body.length as u32]
 }
 
+/// After a unit's body stand the zeros that it counts, and then the next unit or the stream's end.
+fn zeros_follow(stream: &[u8], unit: &Unit) -> bool {
+    let after = &stream[unit.offset + 4 + unit.body.len()..];
+    match after.get(..unit.trailing_zeros) {
+        Some(zeros) if zeros.iter().all(|&byte| byte == 0) => {
+            let rest = &after[zeros.len()..];
+            rest.is_empty() || rest.starts_with(&[0, 0, 1])
+        }
+        _ => false,
+    }
+}
+
+/// Whether each unit says the group and the head it stands in, by the kinds of the units up to it.
+fn well_placed(recording: &Recording) -> bool {
+    let (mut group, mut in_head) = (None, false);
+    recording.units().enumerate().all(|(i, unit)| {
+        match unit.kind {
+            Kind::SequenceHeader => (group, in_head) = (Some(group.map_or(0, |g| g + 1)), true),
+            Kind::IPicture | Kind::PbPicture => in_head = false,
+            Kind::SequenceEnd | Kind::EditCode => group = None,
+            Kind::Slice | Kind::UserData | Kind::Extension => {}
+        }
+        (unit.index, unit.group, unit.in_head) == (i, group, in_head)
+    })
+}
+
+/// Rows of the units taken from both ends in turn.
 fn recording_rows(stream: &[u8], lent: &mut [u32]) -> Answer {
     let recording = match avsplus::file(stream) {
         Ok(recording) => recording,
         Err(refusal) => return stream_refused(refusal),
     };
-    let rows: Vec<u32> = recording.units().flat_map(|unit| row(stream, &unit)).collect();
-    let answer = hand_over(&rows, lent);
+    if !well_placed(&recording) {
+        return refused(u32::MAX, 0);
+    }
+    let mut units = recording.units();
+    let (mut rows, mut from_end) = (Vec::new(), Vec::new());
+    while let Some(unit) = units.next() {
+        rows.push(row(stream, &unit));
+        from_end.extend(units.next_back().map(|unit| row(stream, &unit)));
+    }
+    rows.extend(from_end.iter().rev());
+    let answer = hand_over(&rows.concat(), lent);
     match answer.status {
-        AVSPLUS_DONE => done(recording.unit_count()),
+        AVSPLUS_DONE => done(recording.units().len()),
         _ => answer,
     }
 }
 
-const NO_GROUP: Refused = Refused {
-    reason: Reason::NoRow,
-    offset: 0,
-};
-
 /// A group asked for by its number.
 fn recording_group(stream: &[u8], g: usize) -> Result<Group, Refused> {
-    avsplus::file(stream)?.group(g).ok_or(NO_GROUP)
+    avsplus::file(stream)?.group(g)
 }
 
-/// A group met among all groups.
+/// A group met among all groups, from the end on.
 fn recording_groups(stream: &[u8], g: usize) -> Result<Group, Refused> {
     let recording = avsplus::file(stream)?;
-    let group = recording.groups().nth(g);
-    group.ok_or(NO_GROUP)
+    let after = recording.groups().len().checked_sub(g).and_then(|left| left.checked_sub(1));
+    match after {
+        Some(after) => recording.groups().rev().nth(after).expect("there are as many as it says"),
+        None => recording.group(g),
+    }
 }
 
 fn group(group: Result<Group, Refused>, lent: &mut [u64]) -> Answer {
@@ -155,7 +199,7 @@ fn display_numbers(display: &DisplayExtension) -> Vec<u64> {
 fn sequence_header(body: &[u8], lent: &mut [u64]) -> Answer {
     match avsplus::sequence_header(body) {
         Ok(header) => hand_over(&header_numbers(&header), lent),
-        Err(reason) => refused(reason.number(), 0),
+        Err(refusal) => body_refused(refusal),
     }
 }
 
@@ -163,7 +207,7 @@ fn extension(body: &[u8], in_head: bool, lent: &mut [u64]) -> Answer {
     let scope = if in_head { Scope::Head } else { Scope::Picture };
     match avsplus::extension(body, scope) {
         Ok(extension) => hand_over(&extension_numbers(&extension), lent),
-        Err(reason) => refused(reason.number(), 0),
+        Err(refusal) => body_refused(refusal),
     }
 }
 
@@ -175,86 +219,106 @@ fn extension_numbers(extension: &Extension) -> Vec<u64> {
     }
 }
 
-fn ratio(ratio: Option<Ratio>, lent: &mut [u64]) -> Answer {
-    let numbers = ratio.map_or(vec![], |ratio| vec![ratio.numerator.into(), ratio.denominator.into()]);
-    hand_over(&numbers, lent)
-}
-
-fn remove_escapes(payload: &[u8], output: &mut [u8]) -> Answer {
-    match avsplus::remove_escapes(payload, output) {
-        Ok(bits) => done(bits),
-        Err(reason) => refused(reason.number(), 0),
+fn ratio(ratio: Result<Option<Ratio>, Refused>, lent: &mut [u64]) -> Answer {
+    match ratio {
+        Ok(Some(ratio)) => hand_over(&[ratio.numerator.into(), ratio.denominator.into()], lent),
+        Ok(None) => done(0),
+        Err(refusal) => body_refused(refusal),
     }
 }
 
-fn unsigned_golomb(read: Result<(u32, usize), Reason>, place: usize) -> Golomb {
-    decoder::golomb(read.map_err(Reason::number), place)
+/// Into lent memory where there is some beside the payload's own length, else by way of a payload of its own.
+fn remove_escapes(raw: &[u8], output: &mut [u8]) -> Answer {
+    if raw.len() != output.len() {
+        return avsplus::remove_escapes_into(raw, output).map_or_else(body_refused, |payload| done(payload.bits()));
+    }
+    match avsplus::remove_escapes(raw) {
+        Ok(payload) => {
+            output[..payload.bytes().len()].copy_from_slice(payload.bytes());
+            done(payload.bits())
+        }
+        Err(refusal) => body_refused(refusal),
+    }
 }
 
-fn signed_golomb(read: Result<(i32, usize), Reason>, place: usize) -> SignedNumber {
-    decoder::signed_number(read.map_err(Reason::number), place)
+fn unsigned_golomb(bytes: &[u8], bits: usize, place: usize) -> Golomb {
+    decoder::golomb(Payload::first_bits(bytes, bits).unsigned_golomb(place).map_err(status), place)
+}
+
+fn signed_golomb(bytes: &[u8], bits: usize, place: usize) -> SignedNumber {
+    decoder::signed_number(Payload::first_bits(bytes, bits).signed_golomb(place).map_err(status), place)
+}
+
+fn from_state(state: State) -> avsplus::State {
+    let State { rs, rt, vs, vt, place } = state;
+    avsplus::State { rs, rt, vs, vt, place }
+}
+
+fn to_state(state: avsplus::State) -> State {
+    let avsplus::State { rs, rt, vs, vt, place } = state;
+    State { rs, rt, vs, vt, place }
+}
+
+fn from_context(context: Context) -> avsplus::Context {
+    let Context { mps, lg, cycno } = context;
+    avsplus::Context { mps, lg, cycno }
+}
+
+fn to_context(context: avsplus::Context) -> Context {
+    let avsplus::Context { mps, lg, cycno } = context;
+    Context { mps, lg, cycno }
 }
 
 fn start(bytes: &[u8], bits: usize, state: State) -> Started {
-    match avsplus::start(bytes, bits) {
+    match Payload::first_bits(bytes, bits).start() {
         Ok(state) => Started {
             status: AVSPLUS_DONE,
-            state,
+            state: to_state(state),
         },
-        Err(reason) => Started {
-            status: reason.number(),
+        Err(refusal) => Started {
+            status: status(refusal),
             state,
         },
     }
 }
 
 /// Status and bin of the safe crate's answer.
-fn status_and_bin(decoded: Result<bool, Reason>) -> (u32, u32) {
-    decoder::bin(decoded.map(u32::from).map_err(Reason::number))
+fn status_and_bin(decoded: Result<bool, Refused>) -> (u32, u32) {
+    decoder::bin(decoded.map(u32::from).map_err(status))
 }
 
-fn decode(bytes: &[u8], bits: usize, mut state: State, mut context: Context) -> Bin {
-    let (status, bin) = status_and_bin(avsplus::decode(bytes, bits, &mut state, &mut context));
+fn decode(bytes: &[u8], bits: usize, state: State, context: Context) -> Bin {
+    let (mut state, mut context) = (from_state(state), from_context(context));
+    let (status, bin) = status_and_bin(Payload::first_bits(bytes, bits).decode(&mut state, &mut context));
     Bin {
         status,
         bin,
-        state,
-        context,
+        state: to_state(state),
+        context: to_context(context),
     }
 }
 
-fn decode_pair(bytes: &[u8], bits: usize, mut state: State, mut first: Context, mut second: Context) -> PairBin {
-    let (status, bin) = status_and_bin(avsplus::decode_pair(bytes, bits, &mut state, &mut first, &mut second));
+fn decode_pair(bytes: &[u8], bits: usize, state: State, first: Context, second: Context) -> PairBin {
+    let (mut state, mut first, mut second) = (from_state(state), from_context(first), from_context(second));
+    let decoded = Payload::first_bits(bytes, bits).decode_pair(&mut state, &mut first, &mut second);
+    let (status, bin) = status_and_bin(decoded);
     PairBin {
         status,
         bin,
-        state,
-        first,
-        second,
+        state: to_state(state),
+        first: to_context(first),
+        second: to_context(second),
     }
 }
 
-type Plain = fn(&[u8], usize, &mut State) -> Result<bool, Reason>;
+type Plain = for<'a> fn(&Payload<'a>, &mut avsplus::State) -> Result<bool, Refused>;
 
-fn plain(decode: Plain, bytes: &[u8], bits: usize, mut state: State) -> PlainBin {
-    let (status, bin) = status_and_bin(decode(bytes, bits, &mut state));
-    PlainBin { status, bin, state }
-}
-
-fn kind_number(kind: Option<Kind>) -> u32 {
-    match kind {
-        Some(Kind::Slice) => AVSPLUS_SLICE,
-        Some(Kind::SequenceHeader) => AVSPLUS_SEQUENCE_HEADER,
-        Some(Kind::SequenceEnd) => AVSPLUS_SEQUENCE_END,
-        Some(Kind::UserData) => AVSPLUS_USER_DATA,
-        Some(Kind::IPicture) => AVSPLUS_I_PICTURE,
-        Some(Kind::Extension) => AVSPLUS_EXTENSION_UNIT,
-        Some(Kind::PbPicture) => AVSPLUS_PB_PICTURE,
-        Some(Kind::EditCode) => AVSPLUS_EDIT_CODE,
-        None => AVSPLUS_NO_KIND,
+fn plain(decode: Plain, bytes: &[u8], bits: usize, state: State) -> PlainBin {
+    let mut state = from_state(state);
+    let (status, bin) = status_and_bin(decode(&Payload::first_bits(bytes, bits), &mut state));
+    PlainBin {
+        status,
+        bin,
+        state: to_state(state),
     }
-}
-
-fn kind(code: u8) -> u32 {
-    kind_number(avsplus::kind(code))
 }

@@ -1,6 +1,6 @@
 //! The comparison with few inputs, and the comparison itself: an answer altered on purpose has to be found.
 
-use avsplus::raw::{Answer, Bin, Context, Golomb, PairBin, Part, SignedNumber, Started, State};
+use avsplus_sys::{Answer, Bin, Context, Golomb, PairBin, Part, SignedNumber, Started, State};
 use compare::{run, Decoder, Decoders, Plan, Report, DECODERS, LIBRARY, REFERENCE};
 
 fn small(decoders: Decoders<'_>, seed: u64) -> Report {

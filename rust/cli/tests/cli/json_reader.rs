@@ -5,6 +5,8 @@
 pub enum Json {
     /// Not given.
     Null,
+    /// Yes or no.
+    Truth(bool),
     /// A whole number.
     Number(i64),
     /// A text.
@@ -78,6 +80,10 @@ fn take(rest: &mut &str, token: &str) -> bool {
 fn value(rest: &mut &str) -> Json {
     if take(rest, "null") {
         Json::Null
+    } else if take(rest, "true") {
+        Json::Truth(true)
+    } else if take(rest, "false") {
+        Json::Truth(false)
     } else if take(rest, "{") {
         Json::Object(members(rest, "}", |rest| {
             assert!(take(rest, "\""));

@@ -1,6 +1,7 @@
 //! Runs the program on the worked examples of the specification.
 
 mod json_reader;
+mod output;
 mod payloads;
 mod recordings;
 mod support;

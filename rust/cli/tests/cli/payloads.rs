@@ -9,7 +9,10 @@ use crate::support::*;
 fn escape_bits_are_removed() {
     let name = written("escapes.bin", &[0x00, 0x00, 0x02, 0xC0]);
     let ran = avsplus(&["unescape", &name]);
-    assert_eq!((ran.status, ran.text()), (0, "bits: 30\nbytes: 00000300\n"));
+    assert_eq!(
+        (ran.status, ran.text()),
+        (0, "bits: 30\nbytes: 00000300\nread with: --bits 30\n")
+    );
     let ran = avsplus(&["unescape", &name, "--json"]);
     assert_eq!(
         ran.text(),
@@ -18,14 +21,17 @@ fn escape_bits_are_removed() {
 }
 
 #[test]
-fn removed_escapes_go_to_a_file() {
+fn removed_escapes_go_to_a_file_or_to_standard_output() {
     let output = path("unescaped.bin");
     let ran = avsplus_reading(
         &["unescape", "-", "--output", output.to_str().unwrap()],
         &[0x00, 0x00, 0x02, 0xC0],
     );
-    assert_eq!((ran.status, ran.text()), (0, "bits: 30\n"));
+    assert_eq!((ran.status, ran.text()), (0, "bits: 30\nread with: --bits 30\n"));
     assert_eq!(fs::read(output).unwrap(), [0x00, 0x00, 0x03, 0x00]);
+    let ran = avsplus_reading(&["unescape", "-", "--output", "-"], &[0x00, 0x00, 0x02, 0xC0]);
+    assert_eq!((ran.status, ran.output.as_slice()), (0, &[0x00, 0x00, 0x03, 0x00][..]));
+    assert_eq!(ran.complaint, "avsplus: 30 bits: read them with --bits 30\n");
 }
 
 #[test]
@@ -33,8 +39,126 @@ fn a_refused_payload_leaves_the_file() {
     let output = written("kept.bin", b"kept");
     let ran = avsplus_reading(&["unescape", "-", "--output", &output], &[0; 65_537]);
     assert_eq!((ran.status, ran.text()), (1, ""));
-    assert_eq!(ran.complaint, "avsplus: TOO LONG (13): there are more bytes than the limit\n");
+    assert_eq!(
+        ran.complaint,
+        "avsplus: TOO LONG (13): there are more bytes than the limit of 65536 for a payload\n"
+    );
     assert_eq!(fs::read(output).unwrap(), b"kept");
+}
+
+/// The filling of an unescaped payload is never read as data: not with the escape bits removed on the way, not with the bit count
+/// that removal says, and not where nobody says how many bits there are.
+#[test]
+fn filling_is_never_read_as_a_number() {
+    let raw = written("filled.raw", &ESCAPED);
+    let unescaped = path("filled.out").to_str().unwrap().to_string();
+    let ran = avsplus(&["unescape", &raw, "--output", &unescaped]);
+    assert!(ran.text().starts_with("bits: 54\n"));
+    for arguments in [
+        &["golomb", &unescaped][..],
+        &["golomb", &unescaped, "--bits", "54"],
+        &["golomb", &raw, "--escaped"],
+    ] {
+        let json = avsplus(&[arguments, &["--place", "8", "--json"]].concat());
+        assert_eq!(
+            (json.status, json.json().get("answer").text()),
+            (1, "PAYLOAD OUT"),
+            "{:?}",
+            arguments
+        );
+        assert_eq!(json.json().get("numbers").list(), []);
+        let ran = avsplus(&[arguments, &["--place", "8"]].concat());
+        assert_eq!((ran.status, ran.text().lines().last()), (1, Some("next place: 8")));
+    }
+    // With all bits said to be the payload's the number is there.
+    let json = avsplus(&[
+        "golomb", &unescaped, "--bits", "all", "--place", "8", "--count", "1", "--json",
+    ])
+    .json();
+    assert_eq!(json.get("numbers").list()[0].get("number").number(), 8_389_121);
+}
+
+#[test]
+fn filling_is_never_read_as_a_bin() {
+    // Removal drops two bits, and two fill the last byte; the bins that take them are refused.
+    let raw = written("filled-bins.raw", &[0x80, 0x00, 0x00, 0x02, 0xAA]);
+    let unescaped = path("filled-bins.out").to_str().unwrap().to_string();
+    assert!(avsplus(&["unescape", &raw, "--output", &unescaped])
+        .text()
+        .starts_with("bits: 38\n"));
+    let decoded = |arguments: &[&str]| {
+        let ran = avsplus(&[&["bins"], arguments, &["--count", "1000", "--bypass", "--json"]].concat());
+        (
+            ran.status,
+            ran.json().get("bins").list().len(),
+            ran.json().get("state").get("place").number(),
+        )
+    };
+    let of_38 = decoded(&[&raw, "--escaped"]);
+    assert_eq!((of_38.0, of_38.2 <= 38), (1, true));
+    assert_eq!(decoded(&[&unescaped, "--bits", "38"]), of_38);
+    assert_eq!(decoded(&[&unescaped]), of_38);
+    let all = decoded(&[&unescaped, "--bits", "all"]);
+    assert!(all.1 > of_38.1, "{:?} {:?}", all, of_38);
+}
+
+#[test]
+fn what_may_be_filling_is_said() {
+    let ran = avsplus_reading(&["bins", "-", "--count", "1"], &[0x80, 0x40, 0x00]);
+    assert_eq!(
+        (ran.status, ran.text().lines().next()),
+        (1, Some("payload: 17 bits, and 7 bits at the end that may be filling"))
+    );
+    let complaint =
+        "avsplus: PAYLOAD OUT (14): a bit is wanted and none is left; the last 7 bits may be filling and were not read: \
+        --bits says how many bits the payload has\n";
+    assert_eq!(ran.complaint, complaint);
+    let json = avsplus_reading(&["golomb", "-", "--json"], &[0xA0]).json();
+    assert_eq!(
+        (json.get("payload_bits").number(), json.get("bits_not_read").number()),
+        (3, 5)
+    );
+}
+
+/// A recording whose unit 2, a slice, has the payload with the filling.
+fn recording_with_payload() -> Vec<u8> {
+    [
+        unit(0xB0, &HEADER),
+        unit(0xB3, &[0x80]),
+        unit(0x00, &ESCAPED),
+        unit(0xB1, &[]),
+    ]
+    .concat()
+}
+
+#[test]
+fn payloads_of_units() {
+    let name = written("payload.avs", &recording_with_payload());
+    let raw = written("payload.raw", &ESCAPED);
+    assert_eq!(
+        avsplus(&["unescape", &name, "--unit", "2"]).text(),
+        avsplus(&["unescape", &raw]).text()
+    );
+    for rest in [&["--json"][..], &["--count", "8"], &["--signed", "--place", "3"]] {
+        let of_unit = avsplus(&[&["golomb", &name, "--unit", "2"], rest].concat());
+        let of_raw = avsplus(&[&["golomb", &raw, "--escaped"], rest].concat());
+        assert_eq!((of_unit.status, of_unit.output), (of_raw.status, of_raw.output));
+    }
+    let of_unit = avsplus(&["bins", &name, "--unit=2", "--count", "9"]);
+    let of_raw = avsplus(&["bins", &raw, "--escaped", "--count", "9"]);
+    assert_eq!((of_unit.status, of_unit.text()), (of_raw.status, of_raw.text()));
+    let ran = avsplus(&["golomb", &name, "--unit", "4"]);
+    assert_eq!((ran.status, ran.text()), (1, ""));
+    assert_eq!(ran.complaint, "avsplus: NO ROW (16): there is no unit 4, only 4 units\n");
+    let cut = written("payload-cut.avs", &recording_with_payload()[..35]);
+    let ran = avsplus(&["bins", &cut, "--unit", "2", "--count", "1"]);
+    assert_eq!(
+        (ran.status, ran.complaint.as_str()),
+        (
+            1,
+            "avsplus: UNENDED (11) at byte 35: the stream stops before it is complete\n"
+        )
+    );
 }
 
 #[test]
@@ -42,16 +166,25 @@ fn numbers_one_after_another() {
     // 1, 010, 011, then one 1 to end with.
     let name = written("golomb.bin", &[0b1010_0111]);
     let ran = avsplus(&["golomb", &name]);
-    assert_eq!(ran.status, 0);
+    assert_eq!((ran.status, ran.complaint.as_str()), (0, ""));
     let lines: Vec<&str> = ran.text().lines().collect();
-    assert_eq!(lines[0], "   place       number");
-    assert_eq!(lines[1..3], ["       0            0", "       1            1"]);
+    assert_eq!(lines[..2], ["payload: 8 bits", "   place       number"]);
+    assert_eq!(lines[2..4], ["       0            0", "       1            1"]);
     assert_eq!(
-        lines[3..],
+        lines[4..],
         ["       4            2", "       7            0", "next place: 8"]
     );
     let json = avsplus(&["golomb", &name, "--signed", "--json"]).json();
-    assert_eq!(json.names(), ["answer", "number", "numbers", "next_place"]);
+    let names = [
+        "answer",
+        "number",
+        "payload_bits",
+        "bits_not_read",
+        "numbers",
+        "next_place",
+        "bits_left",
+    ];
+    assert_eq!(json.names(), names);
     let numbers: Vec<i64> = json
         .get("numbers")
         .list()
@@ -64,19 +197,54 @@ fn numbers_one_after_another() {
 #[test]
 fn numbers_within_bits_place_and_count() {
     let name = written("golomb-part.bin", &[0b1010_0111]);
-    let json = avsplus(&["golomb", &name, "--bits", "7", "--place", "1", "--json"]).json();
+    let ran = avsplus(&["golomb", &name, "--bits", "7", "--place", "1", "--json"]);
+    let json = ran.json();
+    assert_eq!(ran.status, 0);
     assert_eq!((json.get("numbers").list().len(), json.get("next_place").number()), (2, 7));
-    let json = avsplus(&["golomb", &name, "--count", "1", "--json"]).json();
-    assert_eq!((json.get("numbers").list().len(), json.get("next_place").number()), (1, 1));
+    let ran = avsplus(&["golomb", &name, "--count", "1", "--json"]);
+    let json = ran.json();
+    assert_eq!(ran.status, 0);
+    assert_eq!((json.get("numbers").list().len(), json.get("bits_left").number()), (1, 7));
+}
+
+/// Bits that are left and are no whole number are said, with how many and from where on.
+#[test]
+fn a_cut_number_is_said() {
+    // 1, then four zeros, a 1 and two of four bits.
+    let ran = avsplus_reading(&["golomb", "-"], &[0x84]);
+    assert_eq!((ran.status, ran.text().lines().last()), (1, Some("next place: 1")));
+    assert!(
+        ran.complaint
+            .starts_with("avsplus: PAYLOAD OUT (14) at bit 1: 7 bits are left from bit 1 on, no whole number"),
+        "{}",
+        ran.complaint
+    );
+    let ran = avsplus_reading(&["golomb", "-", "--json"], &[0x84]);
+    let json = ran.json();
+    assert_eq!(
+        (ran.status, json.get("place").number(), json.get("bits_left").number()),
+        (1, 1, 7)
+    );
+    assert_eq!(json.get("numbers").list().len(), 1);
+    let ran = avsplus_reading(&["golomb", "-", "--bits", "2"], &[0x80]);
+    assert_eq!(
+        (ran.status, ran.complaint.as_str()),
+        (
+            1,
+            "avsplus: PAYLOAD OUT (14) at bit 1: 1 bit is left from bit 1 on, no whole number\n"
+        )
+    );
+    // Whoever asked for one number has it.
+    assert_eq!(avsplus_reading(&["golomb", "-", "--count", "1"], &[0x84]).status, 0);
 }
 
 #[test]
 fn numbers_that_are_refused() {
     let ran = avsplus_reading(&["golomb", "-"], &[]);
-    assert_eq!((ran.status, ran.text()), (1, ""));
+    assert_eq!((ran.status, ran.text()), (1, "payload: 0 bits\nnext place: 0\n"));
     assert_eq!(
         ran.complaint,
-        "avsplus: PAYLOAD OUT (14) at 0: a bit is wanted and none is left\n"
+        "avsplus: PAYLOAD OUT (14) at bit 0: a bit is wanted, and the payload has 0 bits\n"
     );
     let ran = avsplus_reading(&["golomb", "-", "--count", "9", "--json"], &[0xFF]);
     let json = ran.json();
@@ -85,42 +253,63 @@ fn numbers_that_are_refused() {
         (1, "PAYLOAD OUT", 8)
     );
     assert_eq!(json.get("numbers").list().len(), 8);
-    let ran = avsplus_reading(&["golomb", "-"], &[0x80, 0, 0, 0, 0, 0]);
+    let ran = avsplus_reading(&["golomb", "-"], &[0x80, 0, 0, 0, 0, 1]);
     assert_eq!(
         (ran.status, ran.text()),
-        (1, "   place       number\n       0            0\nnext place: 1\n")
+        (
+            1,
+            "payload: 48 bits\n   place       number\n       0            0\nnext place: 1\n"
+        )
     );
-    assert_eq!(ran.complaint, "avsplus: VALUE (8) at 1: a value is ruled out\n");
+    assert_eq!(
+        ran.complaint,
+        "avsplus: VALUE (8) at bit 1: 32 zeros or more stand before a 1, and no number is so long\n"
+    );
 }
 
 #[test]
 fn bins_by_one_context() {
-    let ran = avsplus_reading(&["bins", "-", "--count", "1"], &[0x80, 0x40, 0x00]);
-    let sheet = "bins: 1\nstate: rS 0, rT 254, valueS 8, valueT 0, place 18\ncontext: mps 1, lg 827, cycno 1\n";
+    let ran = avsplus_reading(&["bins", "-", "--count", "1", "--bits", "24"], &[0x80, 0x40, 0x00]);
+    let sheet = "payload: 24 bits\nbins: 1\nstate: rS 0, rT 254, valueS 8, valueT 0, place 18\n\
+        context: mps 1, lg 827, cycno 1\n";
     assert_eq!((ran.status, ran.text()), (0, sheet));
-    let ran = avsplus_reading(&["bins", "-", "--count", "3", "--json"], &[0x40, 0x00]);
-    let expected = "{\"answer\":\"done\",\"number\":0,\"bins\":[0,0,1],\
+    let ran = avsplus_reading(&["bins", "-", "--count", "3", "--json", "--bits", "all"], &[0x40, 0x00]);
+    let expected = "{\"answer\":\"done\",\"number\":0,\"payload_bits\":16,\"bits_not_read\":0,\"bins\":[0,0,1],\
         \"state\":{\"rs\":0,\"rt\":188,\"vs\":0,\"vt\":28,\"place\":12},\"context\":{\"mps\":0,\"lg\":927,\"cycno\":2}}\n";
     assert_eq!(ran.text(), expected);
 }
 
 #[test]
 fn bins_without_a_context() {
-    let ran = avsplus_reading(&["bins", "-", "--count", "1", "--bypass"], &[0x80, 0x40, 0x00]);
-    assert_eq!(ran.text(), "bins: 1\nstate: rS 0, rT 254, valueS 8, valueT 0, place 18\n");
-    let json = avsplus_reading(&["bins", "-", "--count", "2", "--stuffing", "--json"], &[0x40, 0x00]).json();
+    let ran = avsplus_reading(
+        &["bins", "-", "--count", "1", "--bypass", "--bits", "24"],
+        &[0x80, 0x40, 0x00],
+    );
+    assert_eq!(
+        ran.text(),
+        "payload: 24 bits\nbins: 1\nstate: rS 0, rT 254, valueS 8, valueT 0, place 18\n"
+    );
+    let stuffing = ["bins", "-", "--count", "2", "--stuffing", "--json", "--bits", "16"];
+    let json = avsplus_reading(&stuffing, &[0x40, 0x00]).json();
     assert_eq!(json.get("bins").list(), [Json::Number(0), Json::Number(0)]);
     assert_eq!(json.get("context"), &Json::Null);
 }
 
 #[test]
 fn bins_that_are_refused() {
-    let ran = avsplus_reading(&["bins", "-", "--count", "1"], &[0x80, 0x00]);
+    let ran = avsplus_reading(&["bins", "-", "--count", "1", "--bits", "16"], &[0x80, 0x00]);
     assert_eq!(ran.status, 1);
-    assert!(ran.text().starts_with("bins: \nstate: "));
+    assert!(ran.text().starts_with("payload: 16 bits\nbins: \nstate: "));
     assert_eq!(ran.complaint, "avsplus: PAYLOAD OUT (14): a bit is wanted and none is left\n");
-    let json = avsplus_reading(&["bins", "-", "--count", "1", "--json"], &[0x80, 0x00]).json();
-    assert_eq!(json.names(), ["answer", "number", "bins", "state", "context"]);
+    let json = avsplus_reading(&["bins", "-", "--count", "1", "--json", "--bits=16"], &[0x80, 0x00]).json();
+    assert_eq!(json.get("answer").text(), "PAYLOAD OUT");
+    assert_eq!(json.get("bins").list(), []);
     let ran = avsplus_reading(&["bins", "-", "--count", "0", "--json", "--bits", "8"], &[0x80, 0x00]);
-    assert_eq!((ran.status, ran.text()), (1, "{\"answer\":\"PAYLOAD OUT\",\"number\":14}\n"));
+    assert_eq!(
+        (ran.status, ran.text()),
+        (
+            1,
+            "{\"answer\":\"PAYLOAD OUT\",\"number\":14,\"meaning\":\"a bit is wanted and none is left\"}\n"
+        )
+    );
 }

@@ -3,6 +3,29 @@
 use crate::json_reader::Json;
 use crate::support::*;
 
+/// Two groups: the first with user data, a display extension with colour and a copyright extension, the second with square samples, a
+/// bit rate over 262,144, a display extension without colour, and after its picture header number 2, which is opaque there, and a
+/// copyright extension.
+fn two_groups() -> Vec<u8> {
+    let mut square = HEADER;
+    square[6] = 0x44;
+    square[11] = 0xA0;
+    let head = [
+        unit(0xB2, b"user\0"),
+        unit(0xB5, &DISPLAY_WITH_COLOUR),
+        unit(0xB5, &COPYRIGHT),
+    ];
+    let second = [
+        unit(0xB0, &square),
+        unit(0xB5, &DISPLAY),
+        unit(0xB3, &[0x80]),
+        unit(0xB5, &DISPLAY),
+        unit(0xB5, &COPYRIGHT),
+        unit(0x00, &[0x80, 0x00]),
+    ];
+    [group(&HEADER, &head), second.concat(), unit(0xB1, &[]), unit(0xB7, &[])].concat()
+}
+
 #[test]
 fn the_sheet_of_example_1() {
     let ran = avsplus(&["file", &written("sheet-1.avs", &example_1())]);
@@ -12,14 +35,7 @@ fn the_sheet_of_example_1() {
 
 #[test]
 fn the_sheet_of_two_groups() {
-    let mut square = HEADER;
-    // Aspect 1 says square samples, and bit rate high 1 adds 262,144.
-    square[6] = 0x44;
-    square[11] = 0xA0;
-    let first = group(&HEADER, &[unit(0xB2, b"user\0"), unit(0xB5, &DISPLAY_WITH_COLOUR)]);
-    let second = group(&square, &[unit(0xB5, &DISPLAY)]);
-    let stream = [first, second, unit(0xB1, &[]), unit(0xB7, &[])].concat();
-    let ran = avsplus_reading(&["file", "-"], &stream);
+    let ran = avsplus_reading(&["file", "-"], &two_groups());
     assert_eq!(ran.text(), include_str!("expected/two-groups.txt"));
     assert_eq!(ran.status, 0);
 }
@@ -34,24 +50,24 @@ fn refusals_of_the_examples() {
     };
     let mut unstuffed = example_1();
     unstuffed[18] = 0x00;
-    let refused: [(&[u8], &str); 5] = [
+    let refused: [(&[u8], &str); 4] = [
         (
             &good[..29],
-            "answer: UNENDED (11) at 29\nreason: the stream stops before it is complete\n",
+            "answer: UNENDED (11) at byte 29\nreason: the stream stops before it is complete\nbytes: 29\n",
         ),
         (
             &good[..32],
-            "answer: CUT (2) at 29\nreason: a start code prefix has no code byte after it\n",
-        ),
-        (
-            &[],
-            "answer: NO CODE (1) at 0\nreason: the first three bytes are not 00 00 01\n",
+            "answer: CUT (2) at byte 29\nreason: a start code prefix has no code byte after it\nbytes: 32\nthere: 00 00 01\n",
         ),
         (
             &unstuffed,
-            "answer: STUFFING (9) at 0\nreason: the body's end is not as required\n",
+            "answer: STUFFING (9) at byte 0\nreason: the body's end is not as required\nbytes: 33\n\
+             there: 00 00 01 B0 48 40 0F 00 21 C2 4C C4 E2 08 00 20 ..\n",
         ),
-        (&with_slice(0x44), "answer: VALUE (8) at 24\nreason: a value is ruled out\n"),
+        (
+            &with_slice(0x44),
+            "answer: VALUE (8) at byte 24\nreason: a value is ruled out\nbytes: 33\nthere: 00 00 01 44 80 00 00 01 B1\n",
+        ),
     ];
     for (stream, sheet) in refused {
         let ran = avsplus_reading(&["file", "-"], stream);
@@ -60,12 +76,33 @@ fn refusals_of_the_examples() {
     assert_eq!(avsplus_reading(&["file", "-"], &with_slice(0x43)).status, 0);
 }
 
+/// Nothing is said of bytes that are not there.
+#[test]
+fn recordings_that_begin_with_no_code() {
+    for (stream, reason) in [
+        (&[][..], "there are no bytes"),
+        (&[0x00, 0x00], "it begins with 00 00, not with 00 00 01"),
+        (&[0x47, 0x40, 0x11, 0x10], "it begins with 47 40 11, not with 00 00 01"),
+    ] {
+        let ran = avsplus_reading(&["file", "-"], stream);
+        let lines: Vec<&str> = ran.text().lines().take(2).collect();
+        assert_eq!(lines, ["answer: NO CODE (1) at byte 0", &format!("reason: {}", reason)]);
+        assert_eq!(ran.status, 1);
+        let ran = avsplus_reading(&["units", "-"], stream);
+        assert_eq!((ran.status, ran.text()), (1, ""));
+        assert_eq!(ran.complaint, format!("avsplus: NO CODE (1) at byte 0: {}\n", reason));
+    }
+}
+
 #[test]
 fn a_recording_over_the_limit() {
     let ran = avsplus_reading(&["file", "-"], &vec![0; 16_777_217]);
-    assert_eq!(
-        ran.text(),
-        "answer: TOO LONG (13) at 0\nreason: there are more bytes than the limit\n"
+    assert!(
+        ran.text().starts_with(
+            "answer: TOO LONG (13) at byte 0\nreason: there are more bytes than the limit of 16777216\nbytes: more than 16777216\n"
+        ),
+        "{}",
+        ran.text()
     );
     assert_eq!(ran.status, 1);
 }
@@ -73,23 +110,108 @@ fn a_recording_over_the_limit() {
 #[test]
 fn the_sheet_as_json() {
     let json = avsplus(&["file", "--json", &written("json-1.avs", &example_1())]).json();
-    assert_eq!(json.names(), ["answer", "number", "units", "groups"]);
+    assert_eq!(json.names(), ["answer", "number", "bytes", "units", "groups"]);
     assert_eq!((json.get("answer").text(), json.get("number").number()), ("FILED", 0));
     let units = json.get("units").list();
     let lengths: Vec<i64> = units.iter().map(|unit| unit.get("length").number()).collect();
     assert_eq!(lengths, [15, 1, 1, 0]);
-    assert_eq!(units[0].names(), ["unit", "code", "kind", "offset", "length"]);
+    let names = [
+        "unit",
+        "group",
+        "in_head",
+        "code",
+        "kind",
+        "offset",
+        "length",
+        "trailing_zeros",
+    ];
+    assert_eq!(units[0].names(), names);
     assert_eq!(
         (units[1].get("code").number(), units[1].get("kind").text()),
         (0xB3, "I picture")
     );
+    assert_eq!(units[3].get("group"), &Json::Null);
     let group = &json.get("groups").list()[0];
-    assert_eq!(group.names(), ["group", "header", "frame_rate", "display_ratio", "display"]);
-    assert_eq!(group.get("header").get("bit_rate").number(), 20_000);
-    assert_eq!(group.get("header").names().len(), 14);
-    assert_eq!(group.get("frame_rate").get("numerator").number(), 25);
-    assert_eq!(group.get("display_ratio").get("denominator").number(), 9);
+    assert_eq!(
+        group.names(),
+        ["group", "unit", "header", "worked_out", "display", "copyrights"]
+    );
+    assert_eq!(group.get("header").names().len(), 13);
+    let worked_out = group.get("worked_out");
+    assert_eq!(worked_out.get("bit_rate").number(), 20_000);
+    assert_eq!(worked_out.get("macroblock_rows").number(), 68);
+    assert_eq!(worked_out.get("frame_rate").get("numerator").number(), 25);
+    assert_eq!(worked_out.get("display_ratio").get("denominator").number(), 9);
     assert_eq!(group.get("display"), &Json::Null);
+    assert_eq!(group.get("copyrights").list(), []);
+}
+
+/// Aspect 1 says square samples: that is given.
+#[test]
+fn square_samples() {
+    let name = written("square.avs", &two_groups());
+    let ran = avsplus(&["header", &name, "--group", "1"]);
+    let line = ran.text().lines().find(|line| line.contains("display ratio")).unwrap();
+    assert_eq!(
+        line.split("  ").filter(|part| !part.is_empty()).collect::<Vec<_>>(),
+        ["display ratio", "square samples", "worked out: aspect 1"]
+    );
+    let json = avsplus(&["header", &name, "--group", "1", "--json"]).json();
+    assert_eq!(json.get("worked_out").get("display_ratio").text(), "square samples");
+}
+
+#[test]
+fn extensions_are_told_apart() {
+    let name = written("extensions.avs", &two_groups());
+    let text = avsplus(&["units", &name]);
+    let kinds: Vec<&str> = text.text().lines().skip(1).map(|line| line[24..46].trim()).collect();
+    let expected = [
+        "sequence header",
+        "user data",
+        "display extension",
+        "copyright extension",
+        "I picture",
+        "slice",
+        "sequence header",
+        "display extension",
+        "I picture",
+        "extension 2, opaque",
+        "copyright extension",
+        "slice",
+        "sequence end",
+        "edit code",
+    ];
+    assert_eq!(kinds, expected);
+    let json = avsplus(&["units", &name, "--json"]).json();
+    let told: Vec<(i64, &str)> = json
+        .get("units")
+        .list()
+        .iter()
+        .filter(|unit| unit.get("kind").text() == "extension")
+        .map(|unit| unit.get("extension"))
+        .map(|extension| (extension.get("number").number(), extension.get("kind").text()))
+        .collect();
+    let expected = [
+        (2, "display"),
+        (4, "copyright"),
+        (2, "display"),
+        (2, "opaque"),
+        (4, "copyright"),
+    ];
+    assert_eq!(told, expected);
+}
+
+/// A number over 2^53, which readers of JSON would round, is a text.
+#[test]
+fn copyright_numbers_are_texts() {
+    let name = written("copyright.avs", &two_groups());
+    let json = avsplus(&["file", &name, "--json"]).json();
+    for (group, unit) in json.get("groups").list().iter().zip([3, 10]) {
+        let copyright = &group.get("copyrights").list()[0];
+        assert_eq!(copyright.get("unit").number(), unit);
+        assert_eq!((copyright.get("owner").number(), copyright.get("flag").number()), (7, 1));
+        assert_eq!(copyright.get("worked_out").get("number").text(), "81985529216486895");
+    }
 }
 
 #[test]
@@ -98,7 +220,10 @@ fn a_refusal_as_json() {
     for command in [&["file"][..], &["units"], &["header"], &["body"]] {
         let number: &[&str] = if command == ["body"] { &["0"] } else { &[] };
         let ran = avsplus(&[command, &[stream.as_str()], number, &["--json"]].concat());
-        assert_eq!(ran.text(), "{\"answer\":\"UNENDED\",\"number\":11,\"place\":29}\n");
+        assert_eq!(
+            ran.text(),
+            "{\"answer\":\"UNENDED\",\"number\":11,\"offset\":29,\"meaning\":\"the stream stops before it is complete\"}\n"
+        );
         assert_eq!((ran.status, ran.complaint.as_str()), (1, ""));
     }
 }
@@ -111,12 +236,6 @@ fn units_alone() {
     assert!(include_str!("expected/example-1.txt").contains(ran.text()));
     let json = avsplus(&["units", &name, "--json"]).json();
     assert_eq!(json.names(), ["answer", "number", "units"]);
-    let ran = avsplus_reading(&["units", "-"], &[]);
-    assert_eq!((ran.status, ran.text()), (1, ""));
-    assert_eq!(
-        ran.complaint,
-        "avsplus: NO CODE (1) at 0: the first three bytes are not 00 00 01\n"
-    );
 }
 
 #[test]
@@ -126,7 +245,9 @@ fn the_header_of_one_group() {
     let name = written("header.avs", &[first, second, unit(0xB7, &[])].concat());
     let ran = avsplus(&["header", &name]);
     assert!(include_str!("expected/example-1.txt").ends_with(ran.text()));
-    assert!(ran.text().ends_with("  display extension: not given\n"));
+    assert!(ran
+        .text()
+        .ends_with("  display extension: not given\n\n  copyright extension: not given\n"));
 
     let ran = avsplus(&["header", &name, "--group", "1"]);
     assert!(ran.text().starts_with("group 1\n"));
@@ -136,9 +257,9 @@ fn the_header_of_one_group() {
 
     let ran = avsplus(&["header", &name, "--group", "2"]);
     assert_eq!((ran.status, ran.text()), (1, ""));
-    assert_eq!(ran.complaint, "avsplus: NO ROW (16): there is no such unit or group\n");
-    let ran = avsplus(&["header", &name, "--group", "2", "--json"]);
-    assert_eq!((ran.status, ran.text()), (1, "{\"answer\":\"NO ROW\",\"number\":16}\n"));
+    assert_eq!(ran.complaint, "avsplus: NO ROW (16): there is no group 2, only 2 groups\n");
+    let json = avsplus(&["header", &name, "--group", "2", "--json"]);
+    assert_eq!((json.status, json.json().names()), (1, vec!["answer", "number", "meaning"]));
 }
 
 #[test]
@@ -151,9 +272,17 @@ fn the_body_of_a_unit() {
         "48400f0021c24cc4e2080020020080\n"
     );
     assert_eq!(avsplus(&["body", &name, "3"]).text(), "");
-    let ran = avsplus(&["body", &name, "2", "--json"]);
-    assert_eq!(ran.text(), "{\"unit\":2,\"offset\":24,\"length\":1,\"hex\":\"80\"}\n");
+    let json = avsplus(&["body", &name, "2", "--json"]).json();
+    assert_eq!(
+        (json.get("unit").number(), json.get("offset").number(), json.get("hex").text()),
+        (2, 24, "80")
+    );
     let ran = avsplus(&["body", &name, "4"]);
     assert_eq!((ran.status, ran.text()), (1, ""));
-    assert_eq!(ran.complaint, "avsplus: NO ROW (16): there is no such unit or group\n");
+    assert_eq!(ran.complaint, "avsplus: NO ROW (16): there is no unit 4, only 4 units\n");
+    // A body longer than what is written at once.
+    let long = vec![0xAB; 200_000];
+    let stream = [unit(0xB0, &HEADER), unit(0xB3, &long), unit(0x00, &[0x80]), unit(0xB1, &[])].concat();
+    let ran = avsplus_reading(&["body", "-", "1"], &stream);
+    assert_eq!(ran.output, long);
 }

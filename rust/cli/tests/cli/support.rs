@@ -18,6 +18,12 @@ pub const DISPLAY_WITH_COLOUR: [u8; 9] = [0x22, 0x80, 0x80, 0x80, 0x8F, 0x01, 0x
 /// A display extension of 1920 by 1080 without colour.
 pub const DISPLAY: [u8; 6] = [0x22, 0x0F, 0x01, 0x10, 0xE0, 0x80];
 
+/// A copyright extension: flag 1, owner 7, original 1, and a number over 2^53.
+pub const COPYRIGHT: [u8; 12] = [0x48, 0x3C, 0x04, 0x04, 0x8D, 0x2A, 0xCF, 0x13, 0x6B, 0xCD, 0xEF, 0x80];
+
+/// A payload whose removal leaves 54 bits and two that fill the last byte. At bit 8 of it begins a number whose last bit is not there.
+pub const ESCAPED: [u8; 7] = [0xFF, 0x00, 0x00, 0x02, 0x40, 0x01, 0x01];
+
 /// What a run of the program came to.
 pub struct Ran {
     /// The exit status.
@@ -58,6 +64,21 @@ pub fn avsplus_reading(arguments: &[&str], input: &[u8]) -> Ran {
     // The program may end before it has read all.
     let _ = child.stdin.take().unwrap().write_all(input);
     let done = child.wait_with_output().unwrap();
+    Ran {
+        status: done.status.code().unwrap(),
+        output: done.stdout,
+        complaint: String::from_utf8(done.stderr).unwrap(),
+    }
+}
+
+/// Runs the program by a line of the shell, in which $A is the program.
+pub fn shell(line: &str) -> Ran {
+    let done = Command::new("sh")
+        .args(["-c", line])
+        .env("A", env!("CARGO_BIN_EXE_avsplus"))
+        .stdin(Stdio::null())
+        .output()
+        .unwrap();
     Ran {
         status: done.status.code().unwrap(),
         output: done.stdout,

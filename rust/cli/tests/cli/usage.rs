@@ -1,6 +1,6 @@
-//! Help, wrong arguments, files that are not there, and closed pipes.
+//! Help, wrong arguments, and files that are not there.
 
-use std::process::{Command, Stdio};
+use std::fs;
 
 use crate::support::*;
 
@@ -21,13 +21,63 @@ fn help_and_version() {
     let ran = avsplus(&["--version"]);
     assert_eq!(
         (ran.status, ran.text()),
-        (0, concat!("avsplus ", env!("CARGO_PKG_VERSION"), "\n"))
+        (0, concat!("avsplus ", env!("CARGO_PKG_VERSION"), ", library interface 1\n"))
+    );
+}
+
+#[test]
+fn help_is_a_command_too() {
+    assert_eq!(avsplus(&["help"]).text(), avsplus(&["--help"]).text());
+    for command in COMMANDS {
+        let ran = avsplus(&["help", command]);
+        assert_eq!((ran.status, ran.text()), (0, avsplus(&[command, "--help"]).text()));
+    }
+    let ran = avsplus(&["help", "refusals"]);
+    assert_eq!(
+        (ran.status, ran.text().lines().filter(|line| line.starts_with("  ")).count()),
+        (0, 16)
+    );
+    assert!(ran
+        .text()
+        .contains("\n  14  PAYLOAD OUT   a bit is wanted and none is left\n"));
+    let ran = avsplus(&["help", "play"]);
+    assert_eq!((ran.status, ran.text()), (2, ""));
+    assert_eq!(ran.complaint, "avsplus: no command \"play\"; see avsplus --help\n");
+}
+
+#[test]
+fn the_man_page_has_all_help() {
+    let page = avsplus(&["help", "--man"]);
+    assert_eq!(page.status, 0);
+    assert!(page.text().starts_with(".TH AVSPLUS 1 "));
+    let plain = page.text().replace("\\-", "-");
+    for text in [&[][..], &["file"], &["golomb"], &["refusals"]] {
+        for line in avsplus(&[&["help"], text].concat()).text().lines() {
+            assert!(plain.contains(line), "{}", line);
+        }
+    }
+    for command in COMMANDS {
+        assert!(plain.contains(&format!("\n.SH {}\n", command.to_uppercase())));
+    }
+}
+
+#[test]
+fn json_may_be_asked_for_before_the_command() {
+    let name = written("json-first.avs", &example_1());
+    let after = avsplus(&["units", &name, "--json"]);
+    let before = avsplus(&["--json", "units", &name]);
+    assert_eq!((before.status, before.text()), (after.status, after.text()));
+    let refused = avsplus_reading(&["--json", "file", "-"], &[]);
+    assert_eq!((refused.status, refused.json().get("answer").text()), (1, "NO CODE"));
+    assert_eq!(
+        avsplus(&["--json"]).complaint,
+        "avsplus: no command given; see avsplus --help\n"
     );
 }
 
 #[test]
 fn wrong_arguments() {
-    let wrong: [(&[&str], &str); 10] = [
+    let wrong: [(&[&str], &str); 14] = [
         (&[], "no command given; see avsplus --help"),
         (&["play"], "no command \"play\"; see avsplus --help"),
         (&["file"], "REC is missing; see avsplus file --help"),
@@ -47,9 +97,22 @@ fn wrong_arguments() {
             "--bypass and --stuffing exclude each other; see avsplus bins --help",
         ),
         (
-            &["unescape", "a", "--output", "-"],
-            "--output takes the name of a file; see avsplus unescape --help",
+            &["unescape", "a", "--output", "-", "--json"],
+            "--json and --output - exclude each other; see avsplus unescape --help",
         ),
+        (
+            &["golomb", "a", "--unit", "1", "--bits", "8"],
+            "--unit, --escaped and --bits exclude each other; see avsplus golomb --help",
+        ),
+        (
+            &["bins", "a", "--count", "1", "--escaped", "--bits", "all"],
+            "--unit, --escaped and --bits exclude each other; see avsplus bins --help",
+        ),
+        (
+            &["golomb", "a", "--bits", "some"],
+            "--bits takes a whole number, not \"some\"; see avsplus golomb --help",
+        ),
+        (&["help", "file", "x"], "\"x\" is one argument too many; see avsplus --help"),
     ];
     for (arguments, complaint) in wrong {
         let ran = avsplus(arguments);
@@ -79,17 +142,17 @@ fn files_that_cannot_be_read_or_written() {
 }
 
 #[test]
-fn a_closed_pipe_is_no_failure() {
-    let payload = written("pipe.bin", &[0xFF; 65_536]);
-    let mut child = Command::new(env!("CARGO_BIN_EXE_avsplus"))
-        .args(["golomb", &payload])
-        .stdin(Stdio::null())
-        .stdout(Stdio::piped())
-        .stderr(Stdio::piped())
-        .spawn()
-        .unwrap();
-    drop(child.stdout.take());
-    let done = child.wait_with_output().unwrap();
-    assert_eq!(done.status.code(), Some(0));
-    assert_eq!(String::from_utf8(done.stderr).unwrap(), "");
+fn nothing_is_written_for_wrong_arguments() {
+    let kept = written("kept-too.bin", b"kept");
+    for arguments in [
+        &["unescape", "-", "--output", &kept, "--hex"][..],
+        &["unescape", "-", "--output", &kept, "extra"],
+        &["unescape", "-", "--output", &kept, "--unit", "x"],
+        &["unescape", "no-such-file", "--output", &kept],
+    ] {
+        let ran = avsplus_reading(arguments, &[0x80]);
+        assert_eq!((ran.status, ran.text()), (2, ""));
+        assert!(ran.complaint.starts_with("avsplus: ") && ran.complaint.ends_with('\n'));
+        assert_eq!(fs::read(&kept).unwrap(), b"kept");
+    }
 }

@@ -1,4 +1,5 @@
-//! The C interface as its header has it, for callers who want no layer between.
+//! The C interface of the library `avsplus` as its header has it: declarations and numbers, and nothing else. The crate
+//! `avsplus` is the safe one above it.
 //!
 //! A pointer lent with a length points to that many elements, and a lent output overlaps nothing else that is lent. A null
 //! pointer may be lent with length 0 only. No function allocates, keeps a pointer, or writes past what it says. A refusal
@@ -6,6 +7,9 @@
 //!
 //! Numbers are written to lent memory from its start on, and the answer's count says how many; later ones stay. What is not
 //! given is not written, needs no room and is never FULL.
+
+#![no_std]
+#![deny(missing_docs)]
 
 /// The number of this interface, raised when it changes: compare it with what [`avsplus_version`] answers.
 pub const AVSPLUS_VERSION: u32 = 1;

@@ -18,7 +18,10 @@ fn main() {
     println!("cargo:rerun-if-env-changed=AVSPLUS_LIB_DIR");
     println!("cargo:rerun-if-changed={}", archive.display());
     if !archive.is_file() {
-        eprintln!("there is no {}: run `rt staticlib avsplus` first", archive.display());
+        eprintln!(
+            "there is no {}: run `make library` first, or name its folder in AVSPLUS_LIB_DIR",
+            archive.display()
+        );
         process::exit(1);
     }
     println!("cargo:rustc-link-search=native={}", folder.display());
