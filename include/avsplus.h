@@ -1,5 +1,9 @@
 /* AVS+ (GY/T 257.1) recordings: filing, rows, groups, headers, extensions, payloads and bins.
  *
+ * docs/RULES.md of the project, installed as share/doc/avsplus/RULES.md, has the rules: of each status exactly when it is given
+ * and what to look at in the recording, the layouts with their bit places, rows, payloads and bins. examples/recording.c is a
+ * whole program.
+ *
  * No call has a precondition beyond C's own: a pointer lent with a length points to that many elements, and a lent output
  * overlaps nothing else that is lent. A null pointer may be lent with length 0 only. No call allocates, keeps a pointer, or
  * writes past what it says. A refusal leaves all lent memory as it was.
@@ -21,7 +25,7 @@ extern "C" {
 /* The number of this interface, raised when it changes: compare it with what avsplus_version answers. */
 #define AVSPLUS_VERSION 1u
 
-/* A status: 0, or the number of a refusal. */
+/* A status: 0, or the number of a refusal: docs/RULES.md, "Refusal numbers". */
 enum {
     AVSPLUS_DONE = 0, /* FILED, for filing */
     AVSPLUS_NO_CODE = 1,
@@ -188,7 +192,7 @@ avsplus_answer avsplus_extension(const uint8_t *body, size_t length, bool in_hea
  * Refused with FULL alone; all stay. */
 avsplus_answer avsplus_frame_rate(uint32_t code, uint64_t *numbers, size_t lent);
 
-/* The display ratio of an aspect, in the same way. */
+/* The display ratio of an aspect, in the same way: 2 to 4 give one. Aspect 1 gives none, for it says square samples. */
 avsplus_answer avsplus_display_ratio(uint32_t aspect, uint64_t *numbers, size_t lent);
 
 /* ── payloads ── */

@@ -347,6 +347,7 @@ extern "C" {
     pub fn avsplus_frame_rate(code: u32, numbers: *mut u64, lent: usize) -> Answer;
 
     /// The display ratio of an aspect: [`AVSPLUS_RATIO_NUMBERS`] numbers, or done with count 0 for an aspect that gives none.
+    /// Aspect 1 gives none, for it says square samples.
     pub fn avsplus_display_ratio(aspect: u32, numbers: *mut u64, lent: usize) -> Answer;
 
     /// Removes escape bits. Done: `count` bits, packed into `output`, the last byte filled with zeros; later bytes stay. TOO

@@ -1,0 +1,143 @@
+#!/usr/bin/env python3
+"""The tables of docs/RULES.md are those of the definitions.
+
+Nothing else compares them: a caller who has only the page goes by it. Both sides are made into rows of words, in order, so that a
+row that is missing, added or moved differs too. A line for each difference, and exit 1.
+"""
+import itertools
+import re
+import sys
+
+PAGE = "docs/RULES.md"
+
+# The words of the page that are not those of the definitions in lower case.
+WORDS = {"FrameRate": "frame rate code", "IPicture": "I picture", "PBPicture": "P or B picture"}
+
+# What a field may be, in the page's words.
+ALLOWED = {"Any": "any", "Set": "1", "Only": "only {}", "But": "not {}", "Within": "{} to {}", "WithinBut": "{} to {}, not {}"}
+
+# A definition's list of fields, the section that it stands in, and which of that section's tables it is.
+LAYOUTS = [
+    ("headerFields", "Sequence header", 0),
+    ("displayFields", "Display extension", 0),
+    ("colouredFields", "Display extension", 1),
+    ("copyrightFields", "Copyright extension", 0),
+]
+
+
+def read(path):
+    return open(path).read()
+
+
+def spoken(name):
+    """A name of the definitions as the page has it: HorizontalSize is horizontal size."""
+    return WORDS.get(name, re.sub(r"(?<=[a-z])(?=[A-Z])", " ", name).lower())
+
+
+# ── the page ──
+
+
+def section(heading):
+    """The text below a heading, up to the next one of any depth."""
+    found = re.findall(rf"^#+ {heading}\n(.*?)(?=^#|\Z)", read(PAGE), re.M | re.S)
+    return found[0] if len(found) == 1 else ""
+
+
+def table(heading, columns, number=0):
+    """The rows of one of the section's tables that have these columns; none where there is no such table."""
+    found = []
+    for block in re.findall(r"(?:^\|.*\n?)+", section(heading), re.M):
+        head, _, *rows = [tuple(cell.strip() for cell in line.strip("|").split("|")) for line in block.splitlines()]
+        found += [rows] if head == tuple(columns.split(", ")) else []
+    return found[number] if number < len(found) else []
+
+
+def large_numbers(text):
+    """Those with thousands set apart by commas, which the page uses from 10,000 on."""
+    return [int(n.replace(",", "")) for n in re.findall(r"\b\d{1,3}(?:,\d{3})+\b", text)]
+
+
+# ── the definitions ──
+
+
+def refusals():
+    """Number 0 has no definition of its own: it is an answer that is done."""
+    yield "0", "FILED / done"
+    for name, number in re.findall(r"^([A-Z-]+) = (\d+)$", read("crates/answers/specs/Answers.antt"), re.M):
+        yield number, name.replace("-", " ")
+
+
+def codes(first, last):
+    return f"{first:02X}" if first == last else f"{first:02X} to {last:02X}"
+
+
+def kinds():
+    """Each kind with its code bytes, and UNKNOWN for those between and after them, which no kind has."""
+    following = 0
+    text = read("crates/startcode/specs/Kinds.antt")
+    for first, last, kind in re.findall(r"\bcodes? 0x(\w\w) (?:0x(\w\w) )?([A-Z]\w+)$", text, re.M):
+        first, last = int(first, 16), int(last or first, 16)
+        if following < first:
+            yield codes(following, first - 1), "UNKNOWN"
+        yield codes(first, last), spoken(kind)
+        following = last + 1
+    yield codes(following, 0xFF), "UNKNOWN"
+
+
+def fields(layout):
+    """First bit, width, name and allowed values; a field begins where the one before it ends."""
+    text = read("crates/layout/specs/Layouts.antt")
+    (body,) = re.findall(rf"^{layout} =\n(.*?)\[\]", text, re.M | re.S)
+    (marker,) = re.findall(r"^marker = (field .*)$", text, re.M)
+    at = 0
+    for item in body.replace("marker", marker).split("∷")[:-1]:
+        name, width, rule = re.fullmatch(r"field (\w+) (\d+) (.*)", item.strip()).groups()
+        rule, *numbers = rule.strip("()").split()
+        yield str(at), width, spoken(name), ALLOWED[rule].format(*numbers)
+        at += int(width)
+
+
+def ratios(name, others):
+    """The codes of a table of fractions, and what is said of every code that has none."""
+    text = read("crates/ratios/specs/Ratios.antt")
+    (body,) = re.findall(rf"^{name} =(.*?)\[\]", text, re.M | re.S)
+    (begins,) = re.findall(rf"= entryOf (\d+) {name} ", text)
+    fractions = [n if d == "1" else f"{n}/{d}" for n, d in re.findall(r"(\d+) over (\d+)", body)]
+    yield from ((str(int(begins) + i), said) for i, said in enumerate(fractions))
+    yield "any other", others
+
+
+def limits():
+    return [int(n.replace("_", "")) for n in re.findall(r"^\w+ = ([\d_]+)$", read("crates/answers/specs/Limits.antt"), re.M)]
+
+
+# ── both ──
+
+
+def pairs():
+    """What is compared, as the definitions have it, and as the page has it."""
+    numbers = table("Refusal numbers", "No, Name, Given exactly when, What to look at")
+    yield "refusals", refusals(), [row[:2] for row in numbers]
+    yield "code bytes", kinds(), table("Units", "Code, Kind")
+    for layout, heading, number in LAYOUTS:
+        yield layout, fields(layout), table(heading, "First bit, Width, Field, Allowed", number)
+    heading = "Frame rates and display ratios"
+    yield "frame rates", ratios("frameRates", "none"), table(heading, "Code, Frames a second")
+    # aspect 1 stands in a comment of the definitions alone
+    aspects = [("1", "square samples, no ratio"), *ratios("displayRatios", "no ratio")]
+    yield "display ratios", aspects, table(heading, "Aspect, Says")
+    yield "limits", limits(), large_numbers(section("Limits"))
+    yield "limits of TOO LONG", limits()[:2], large_numbers(" ".join(" ".join(row) for row in numbers if row[1] == "TOO LONG"))
+
+
+def main():
+    differ = False
+    for what, defined, written in pairs():
+        for here, there in itertools.zip_longest(defined, written):
+            if here != there:
+                differ = True
+                print(f"{what}: defined {here}, the page has {there}")
+    sys.exit(differ)
+
+
+main()
