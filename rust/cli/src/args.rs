@@ -85,9 +85,13 @@ impl Shape {
     }
 }
 
-/// A lone `-` is an operand: it stands for standard input.
+/// A lone `-` is an operand, which stands for standard input, and so is a negative number, which no command takes.
 fn is_operand(argument: &OsStr) -> bool {
-    argument == "-" || !argument.to_string_lossy().starts_with('-')
+    let text = argument.to_string_lossy();
+    match text.strip_prefix('-') {
+        Some(rest) => rest.is_empty() || rest.starts_with(|first: char| first.is_ascii_digit()),
+        None => true,
+    }
 }
 
 fn unknown(argument: &OsStr) -> Failure {

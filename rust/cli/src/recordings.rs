@@ -116,7 +116,7 @@ pub fn header(args: &Args, output: &mut dyn Write) -> Result<Status, Failure> {
     let recording = file_stream(&stream)?;
     let groups = recording.groups().len();
     if g >= groups {
-        return Err(no_row(format!("there is no group {}, only {}", g, counted(groups, "group"))));
+        return Err(no_row("group", g, groups));
     }
     match args.json() {
         true => json::line(output, |object| {
@@ -129,20 +129,14 @@ pub fn header(args: &Args, output: &mut dyn Write) -> Result<Status, Failure> {
 }
 
 /// NO ROW, with what there is.
-fn no_row(meaning: String) -> Failure {
+fn no_row(what: &str, n: usize, count: usize) -> Failure {
+    let meaning = format!("there is no {} {}; the last is {}", what, n, count.saturating_sub(1));
     Failure::Refused(Refusal::from(Refused::from(Reason::NoRow)).meaning(meaning))
-}
-
-fn counted(count: usize, name: &str) -> String {
-    format!("{} {}{}", count, name, if count == 1 { "" } else { "s" })
 }
 
 /// Unit `n` of a filed recording.
 pub fn unit<'a>(recording: &Recording<'a>, n: usize) -> Result<avsplus::Unit<'a>, Failure> {
-    let units = recording.units().len();
-    recording
-        .unit(n)
-        .map_err(|_| no_row(format!("there is no unit {}, only {}", n, counted(units, "unit"))))
+    recording.unit(n).map_err(|_| no_row("unit", n, recording.units().len()))
 }
 
 /// `body REC N`: the body of one unit.

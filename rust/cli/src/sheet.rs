@@ -8,7 +8,7 @@ use std::io::Write;
 
 use avsplus::fields::{self, Field, COPYRIGHT, DISPLAY, DISPLAY_WITH_COLOUR, SEQUENCE_HEADER};
 use avsplus::{
-    sequence_header, Colour, CopyrightExtension, DisplayExtension, DisplayRatio, Extension, Kind, Ratio, Recording,
+    sequence_header, Colour, CopyrightExtension, DisplayExtension, DisplayRatio, Extension, Ratio, Reason, Recording, Refused,
     SequenceHeader, Unit,
 };
 
@@ -73,24 +73,37 @@ fn extension_kind(extension: &Extension) -> &'static str {
 
 // ── groups as text ──
 
+/// The sequence header of group `g`, with the number of its unit.
+fn header_of(recording: &Recording<'_>, g: usize) -> Result<(usize, SequenceHeader), Refused> {
+    let unit = recording.units_of(g).next().ok_or(Reason::NoRow)?;
+    Ok((unit.index, sequence_header(unit.body)?))
+}
+
+/// The extensions of group `g`, with the numbers of their units.
+fn extensions<'r>(recording: &'r Recording<'_>, g: usize) -> impl Iterator<Item = Result<(usize, Extension), Refused>> + 'r {
+    recording.units_of(g).filter_map(|unit| {
+        let extension = unit.extension().transpose()?;
+        Some(extension.map(|extension| (unit.index, extension)))
+    })
+}
+
 /// The tables of group `g`: its sequence header, its display extension and its copyright extensions, in the order of their units.
 pub fn group_text(output: &mut dyn Write, recording: &Recording<'_>, g: usize) -> Written {
     writeln!(output, "group {}", g)?;
+    let (unit, header) = header_of(recording, g)?;
+    header_text(output, unit, &header)?;
     let (mut display_given, mut copyright_given) = (false, false);
-    for unit in recording.units_of(g) {
-        if unit.kind == Kind::SequenceHeader {
-            header_text(output, unit.index, &sequence_header(unit.body)?)?;
-        }
-        match unit.extension()? {
-            Some(Extension::Display(display)) => {
+    for found in extensions(recording, g) {
+        match found? {
+            (unit, Extension::Display(display)) => {
                 display_given = true;
-                display_text(output, unit.index, &display)?;
+                display_text(output, unit, &display)?;
             }
-            Some(Extension::Copyright(copyright)) => {
+            (unit, Extension::Copyright(copyright)) => {
                 copyright_given = true;
-                copyright_text(output, unit.index, &copyright)?;
+                copyright_text(output, unit, &copyright)?;
             }
-            Some(Extension::Opaque(_)) | None => {}
+            (_, Extension::Opaque(_)) => {}
         }
     }
     for (name, given) in [("display", display_given), ("copyright", copyright_given)] {
@@ -221,23 +234,28 @@ fn copyright_text(output: &mut dyn Write, unit: usize, copyright: &CopyrightExte
 
 /// Group `g` as members of a JSON object.
 pub fn group_json(object: &mut Object, recording: &Recording<'_>, g: usize) -> Written {
-    let group = recording.group(g)?;
+    let (unit, header) = header_of(recording, g)?;
     object.put("group", g)?;
-    object.put("unit", recording.units_of(g).next().map(|unit| unit.index))?;
-    object.object("header", |o| header_json(o, &group.header))?;
-    object.object("worked_out", |o| worked_out_json(o, &group.header))?;
-    match &group.display {
-        Some(display) => object.object("display", |o| display_json(o, display))?,
+    object.put("unit", unit)?;
+    object.object("header", |o| header_json(o, &header))?;
+    object.object("worked_out", |o| worked_out_json(o, &header))?;
+    let display = extensions(recording, g).find_map(|found| match found {
+        Ok((unit, Extension::Display(display))) => Some(Ok((unit, display))),
+        Ok(_) => None,
+        Err(refused) => Some(Err(refused)),
+    });
+    match display.transpose()? {
+        Some((unit, display)) => object.object("display", |o| display_json(o, unit, &display))?,
         None => object.put("display", None::<u32>)?,
     }
-    let copyrights = recording.units_of(g).filter_map(|unit| match unit.extension() {
-        Ok(Some(Extension::Copyright(copyright))) => Some(Ok((unit, copyright))),
+    let copyrights = extensions(recording, g).filter_map(|found| match found {
+        Ok((unit, Extension::Copyright(copyright))) => Some(Ok((unit, copyright))),
         Ok(_) => None,
         Err(refused) => Some(Err(refused)),
     });
     object.objects("copyrights", copyrights, |o, found| {
         let (unit, copyright) = found?;
-        copyright_json(o, unit.index, &copyright)
+        copyright_json(o, unit, &copyright)
     })
 }
 
@@ -273,7 +291,8 @@ fn ratio_json(object: &mut Object, ratio: &Ratio) -> Written {
     object.put("denominator", ratio.denominator)
 }
 
-fn display_json(object: &mut Object, display: &DisplayExtension) -> Written {
+fn display_json(object: &mut Object, unit: usize, display: &DisplayExtension) -> Written {
+    object.put("unit", unit)?;
     object.put("format", display.format)?;
     object.put("range", display.range)?;
     match display.colour {

@@ -149,7 +149,7 @@ fn payloads_of_units() {
     assert_eq!((of_unit.status, of_unit.text()), (of_raw.status, of_raw.text()));
     let ran = avsplus(&["golomb", &name, "--unit", "4"]);
     assert_eq!((ran.status, ran.text()), (1, ""));
-    assert_eq!(ran.complaint, "avsplus: NO ROW (16): there is no unit 4, only 4 units\n");
+    assert_eq!(ran.complaint, "avsplus: NO ROW (16): there is no unit 4; the last is 3\n");
     let cut = written("payload-cut.avs", &recording_with_payload()[..35]);
     let ran = avsplus(&["bins", &cut, "--unit", "2", "--count", "1"]);
     assert_eq!(

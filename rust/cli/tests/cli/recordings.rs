@@ -257,7 +257,7 @@ fn the_header_of_one_group() {
 
     let ran = avsplus(&["header", &name, "--group", "2"]);
     assert_eq!((ran.status, ran.text()), (1, ""));
-    assert_eq!(ran.complaint, "avsplus: NO ROW (16): there is no group 2, only 2 groups\n");
+    assert_eq!(ran.complaint, "avsplus: NO ROW (16): there is no group 2; the last is 1\n");
     let json = avsplus(&["header", &name, "--group", "2", "--json"]);
     assert_eq!((json.status, json.json().names()), (1, vec!["answer", "number", "meaning"]));
 }
@@ -279,7 +279,7 @@ fn the_body_of_a_unit() {
     );
     let ran = avsplus(&["body", &name, "4"]);
     assert_eq!((ran.status, ran.text()), (1, ""));
-    assert_eq!(ran.complaint, "avsplus: NO ROW (16): there is no unit 4, only 4 units\n");
+    assert_eq!(ran.complaint, "avsplus: NO ROW (16): there is no unit 4; the last is 3\n");
     // A body longer than what is written at once.
     let long = vec![0xAB; 200_000];
     let stream = [unit(0xB0, &HEADER), unit(0xB3, &long), unit(0x00, &[0x80]), unit(0xB1, &[])].concat();

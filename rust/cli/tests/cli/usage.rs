@@ -77,7 +77,7 @@ fn json_may_be_asked_for_before_the_command() {
 
 #[test]
 fn wrong_arguments() {
-    let wrong: [(&[&str], &str); 14] = [
+    let wrong: [(&[&str], &str); 15] = [
         (&[], "no command given; see avsplus --help"),
         (&["play"], "no command \"play\"; see avsplus --help"),
         (&["file"], "REC is missing; see avsplus file --help"),
@@ -86,6 +86,10 @@ fn wrong_arguments() {
         (
             &["body", "a", "x"],
             "N takes a whole number, not \"x\"; see avsplus body --help",
+        ),
+        (
+            &["body", "a", "-1"],
+            "N takes a whole number, not \"-1\"; see avsplus body --help",
         ),
         (
             &["header", "a", "--group"],
