@@ -7,7 +7,7 @@ use avsplus::{Context, Payload, Reason, Refused, State};
 use crate::args::Args;
 use crate::failure::{Failure, Refusal, Status, Written};
 use crate::json::{self, Object};
-use crate::payloads::{refusal_of, Given, DONE};
+use crate::payloads::{concluded, refusal_of, Given, DONE};
 
 /// The kind of bins to decode.
 #[derive(Clone, Copy)]
@@ -103,11 +103,7 @@ pub fn bins(args: &Args, output: &mut dyn Write) -> Result<Status, Failure> {
         true => bins_json(output, &given, bins, &ended)?,
         false => bins_text(output, &given, bins, &ended)?,
     }
-    match ended.refusal {
-        None => Ok(Status::Done),
-        Some(_) if args.json() => Ok(Status::Refused),
-        Some(refusal) => Err(Failure::Refused(refusal)),
-    }
+    concluded(ended.refusal, args.json())
 }
 
 fn ended(given: &Given, mut bins: Bins) -> Result<Ended, Failure> {
@@ -149,10 +145,7 @@ fn bins_text(output: &mut dyn Write, given: &Given, bins: Bins, ended: &Ended) -
 
 fn bins_json(output: &mut dyn Write, given: &Given, bins: Bins, ended: &Ended) -> Written {
     json::line(output, |object| {
-        match &ended.refusal {
-            None => object.done(DONE)?,
-            Some(refusal) => object.refused(refusal)?,
-        }
+        object.answer(DONE, ended.refusal.as_ref())?;
         given.json(object)?;
         object.values("bins", bins)?;
         object.object("state", |o| state_json(o, &ended.state))?;

@@ -7,7 +7,7 @@ use avsplus::{Payload, Reason, Refused};
 use crate::args::Args;
 use crate::failure::{Failure, Refusal, Status, Written};
 use crate::json;
-use crate::payloads::{bits, refusal_of, Given, DONE};
+use crate::payloads::{bits, concluded, refusal_of, Given, DONE};
 
 /// Numbers of a payload with their places, until there are enough or one is refused.
 #[derive(Clone)]
@@ -74,11 +74,7 @@ pub fn golomb(args: &Args, output: &mut dyn Write) -> Result<Status, Failure> {
         true => numbers_json(output, &given, numbers, &ended)?,
         false => numbers_text(output, &given, numbers, &ended)?,
     }
-    match ended.refusal {
-        None => Ok(Status::Done),
-        Some(_) if args.json() => Ok(Status::Refused),
-        Some(refusal) => Err(Failure::Refused(refusal)),
-    }
+    concluded(ended.refusal, args.json())
 }
 
 /// Reads all numbers. Where no count was asked for, a payload that ends with a number is read to its end; one that does not leaves
@@ -131,10 +127,7 @@ fn numbers_text(output: &mut dyn Write, given: &Given, numbers: Numbers, ended: 
 
 fn numbers_json(output: &mut dyn Write, given: &Given, numbers: Numbers, ended: &Ended) -> Written {
     json::line(output, |object| {
-        match &ended.refusal {
-            None => object.done(DONE)?,
-            Some(refusal) => object.refused(refusal)?,
-        }
+        object.answer(DONE, ended.refusal.as_ref())?;
         given.json(object)?;
         object.objects("numbers", numbers, |o, (place, number)| {
             o.put("place", place)?;

@@ -1,5 +1,19 @@
 //! The help texts. The man page is made of them.
 
+/// The options that say what of FILE is the payload.
+macro_rules! payload_options {
+    () => {
+        "\
+\x20 --unit N      FILE is a recording, and the payload is the body of its unit N, whose
+                escape bits are removed
+  --escaped     escape bits are removed first
+  --bits N      FILE has no escape bits, and its first N bits are the payload; all for
+                all bits of it. Without any of these three nobody says where the payload
+                ends: zeros at the end of the last byte may be filling, and are not read
+"
+    };
+}
+
 /// Help on the program.
 pub const OVERVIEW: &str = "\
 Files AVS+ (GY/T 257.1) recordings. A bit that is missing is never read as 0, and a
@@ -123,7 +137,8 @@ written.
 ";
 
 /// Help on `golomb`.
-pub const GOLOMB: &str = "\
+pub const GOLOMB: &str = concat!(
+    "\
 Reads Exp-Golomb numbers one after another and prints each with its bit place. Without
 --count it reads until the payload ends; bits that are left and are no whole number are
 a refusal, which says how many they are.
@@ -131,25 +146,23 @@ a refusal, which says how many they are.
 Usage: avsplus golomb FILE [--unit N | --escaped | --bits N] [--signed] [--place P]
                            [--count K] [--json]
 
-  FILE         the payload, or - for standard input
-  --unit N     FILE is a recording, and the payload is the body of its unit N, whose
-               escape bits are removed
-  --escaped    escape bits are removed first
-  --bits N     FILE has no escape bits, and its first N bits are the payload; all for
-               all bits of it. Without any of these three nobody says where the payload
-               ends: zeros at the end of the last byte may be filling, and are not read
-  --signed     signed numbers
-  --place P    the bit to begin at; 0 where it is not said
-  --count K    exactly K numbers
-  --json       one JSON object instead of text
-  --help       this text
+  FILE          the payload, or - for standard input
+",
+    payload_options!(),
+    "  --signed      signed numbers
+  --place P     the bit to begin at; 0 where it is not said
+  --count K     exactly K numbers
+  --json        one JSON object instead of text
+  --help        this text
 
 Exit status: 0 when the payload ends with a number or K numbers are read, 1 refused, 2
 wrong arguments, or a file that cannot be read.
-";
+"
+);
 
 /// Help on `bins`.
-pub const BINS: &str = "\
+pub const BINS: &str = concat!(
+    "\
 Starts the arithmetic decoder on a payload, decodes bins with one fresh context, and
 prints the bins, the state and the context after them.
 
@@ -157,20 +170,17 @@ Usage: avsplus bins FILE [--unit N | --escaped | --bits N] --count K
                          [--bypass | --stuffing] [--json]
 
   FILE          the payload, or - for standard input
-  --unit N      FILE is a recording, and the payload is the body of its unit N, whose
-                escape bits are removed
-  --escaped     escape bits are removed first
-  --bits N      FILE has no escape bits, and its first N bits are the payload; all for
-                all bits of it. Without any of these three nobody says where the payload
-                ends: zeros at the end of the last byte may be filling, and are not read
-  --count K     how many bins
+",
+    payload_options!(),
+    "  --count K     how many bins
   --bypass      bypass bins, which have no context
   --stuffing    stuffing bins, which have no context
   --json        one JSON object instead of text
   --help        this text
 
 Exit status: 0 done, 1 refused, 2 wrong arguments, or a file that cannot be read.
-";
+"
+);
 
 /// Before the table of refusals.
 pub const REFUSALS: &str = "\

@@ -51,6 +51,14 @@ impl Object<'_> {
         Ok(write_value(self.output, &value.into())?)
     }
 
+    /// Fields of a layout: each has at most 22 bits.
+    pub fn fields(&mut self, fields: &[(&str, u64)]) -> Written {
+        for &(name, value) in fields {
+            self.put(&name.replace(' ', "_"), value as i64)?;
+        }
+        Ok(())
+    }
+
     /// A member that is an object.
     pub fn object(&mut self, name: &str, members: impl FnOnce(&mut Object) -> Written) -> Written {
         self.name(name)?;
@@ -103,6 +111,14 @@ impl Object<'_> {
     pub fn done(&mut self, name: &str) -> Written {
         self.put("answer", name)?;
         self.put("number", 0_u32)
+    }
+
+    /// The members that name an answer, which is good or a refusal.
+    pub fn answer(&mut self, name: &str, refusal: Option<&Refusal>) -> Written {
+        match refusal {
+            Some(refusal) => self.refused(refusal),
+            None => self.done(name),
+        }
     }
 
     /// The members that name a refusal and say where it stands.

@@ -133,6 +133,15 @@ pub fn refusal_of(refused: Refused) -> Result<Refusal, Failure> {
     }
 }
 
+/// What a command comes to after its output: a refusal is a complaint, where it does not stand in a JSON object already.
+pub fn concluded(refusal: Option<Refusal>, json: bool) -> Result<Status, Failure> {
+    match refusal {
+        None => Ok(Status::Done),
+        Some(_) if json => Ok(Status::Refused),
+        Some(refusal) => Err(Failure::Refused(refusal)),
+    }
+}
+
 /// `unescape FILE [--unit N] [--output OUT]`: escape bits removed.
 pub fn unescape(args: &Args, output: &mut dyn Write) -> Result<Status, Failure> {
     let to = args.option("--output");

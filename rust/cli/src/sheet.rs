@@ -140,33 +140,42 @@ impl<'w> Table<'w> {
         Ok(())
     }
 
+    fn fields(&mut self, fields: &[(&str, u64)]) -> Written {
+        fields.iter().try_for_each(|&(name, value)| self.field(name, value))
+    }
+
     /// A value that follows from fields, and how.
     fn worked_out(&mut self, name: &str, value: impl Display, how: impl Display) -> Written {
         Ok(writeln!(self.output, "    {:<37}  {}  worked out: {}", name, value, how)?)
     }
 }
 
+/// The fields of a sequence header that are recorded, by their names in the layout. The parts of the bit rate follow from it, as it
+/// from them.
+fn header_fields(header: &SequenceHeader) -> [(&'static str, u64); 13] {
+    [
+        ("profile", header.profile.into()),
+        ("level", header.level.into()),
+        ("progressive", header.progressive.into()),
+        ("horizontal size", header.horizontal_size.into()),
+        ("vertical size", header.vertical_size.into()),
+        ("chroma format", header.chroma_format.into()),
+        ("precision", header.precision.into()),
+        ("aspect", header.aspect.into()),
+        ("frame rate code", header.frame_rate_code.into()),
+        ("bit rate low", (header.bit_rate % BIT_RATE_LOW).into()),
+        ("bit rate high", (header.bit_rate / BIT_RATE_LOW).into()),
+        ("low delay", header.low_delay.into()),
+        ("buffer size", header.buffer_size.into()),
+    ]
+}
+
 fn header_text(output: &mut dyn Write, unit: usize, header: &SequenceHeader) -> Written {
     let mut table = Table::begin(output, unit, "sequence header", &SEQUENCE_HEADER)?;
+    table.fields(&header_fields(header))?;
     let (high, low) = (header.bit_rate / BIT_RATE_LOW, header.bit_rate % BIT_RATE_LOW);
-    table.field("profile", header.profile)?;
-    table.field("level", header.level)?;
-    table.field("progressive", u32::from(header.progressive))?;
-    table.field("horizontal size", header.horizontal_size)?;
-    table.field("vertical size", header.vertical_size)?;
-    table.field("chroma format", header.chroma_format)?;
-    table.field("precision", header.precision)?;
-    table.field("aspect", header.aspect)?;
-    table.field("frame rate code", header.frame_rate_code)?;
-    table.field("bit rate low", low)?;
-    table.field("bit rate high", high)?;
-    table.field("low delay", u32::from(header.low_delay))?;
-    table.field("buffer size", header.buffer_size)?;
-    table.worked_out(
-        "bit rate",
-        header.bit_rate,
-        format_args!("{} x {} + {}", high, BIT_RATE_LOW, low),
-    )?;
+    let parts = format!("{} x {} + {}", high, BIT_RATE_LOW, low);
+    table.worked_out("bit rate", header.bit_rate, parts)?;
     let sixteenth = |size: u32| format!("({} + 15) / 16", size);
     table.worked_out(
         "macroblock columns",
@@ -208,21 +217,25 @@ fn display_text(output: &mut dyn Write, unit: usize, display: &DisplayExtension)
     table.field("stereo", display.stereo)
 }
 
-/// The three parts of a copyright number.
-fn copyright_parts(number: u64) -> [u64; 3] {
+/// The fields of a copyright extension that are recorded, by their names in the layout. The parts of its number follow from it, as it
+/// from them.
+fn copyright_fields(copyright: &CopyrightExtension) -> [(&'static str, u64); 6] {
     let part = (1 << COPYRIGHT_PART) - 1;
-    [number >> (2 * COPYRIGHT_PART), number >> COPYRIGHT_PART & part, number & part]
+    [
+        ("flag", copyright.flag.into()),
+        ("owner", copyright.owner.into()),
+        ("original", copyright.original.into()),
+        ("part one", copyright.number >> (2 * COPYRIGHT_PART)),
+        ("part two", copyright.number >> COPYRIGHT_PART & part),
+        ("part three", copyright.number & part),
+    ]
 }
 
 fn copyright_text(output: &mut dyn Write, unit: usize, copyright: &CopyrightExtension) -> Written {
     let mut table = Table::begin(output, unit, "copyright extension", &COPYRIGHT)?;
-    let [one, two, three] = copyright_parts(copyright.number);
-    table.field("flag", u32::from(copyright.flag))?;
-    table.field("owner", copyright.owner)?;
-    table.field("original", u32::from(copyright.original))?;
-    table.field("part one", one)?;
-    table.field("part two", two)?;
-    table.field("part three", three)?;
+    let fields = copyright_fields(copyright);
+    table.fields(&fields)?;
+    let [.., (_, one), (_, two), (_, three)] = fields;
     table.worked_out(
         "copyright number",
         copyright.number,
@@ -237,7 +250,7 @@ pub fn group_json(object: &mut Object, recording: &Recording<'_>, g: usize) -> W
     let (unit, header) = header_of(recording, g)?;
     object.put("group", g)?;
     object.put("unit", unit)?;
-    object.object("header", |o| header_json(o, &header))?;
+    object.object("header", |o| o.fields(&header_fields(&header)))?;
     object.object("worked_out", |o| worked_out_json(o, &header))?;
     let display = extensions(recording, g).find_map(|found| match found {
         Ok((unit, Extension::Display(display))) => Some(Ok((unit, display))),
@@ -257,22 +270,6 @@ pub fn group_json(object: &mut Object, recording: &Recording<'_>, g: usize) -> W
         let (unit, copyright) = found?;
         copyright_json(o, unit, &copyright)
     })
-}
-
-fn header_json(object: &mut Object, header: &SequenceHeader) -> Written {
-    object.put("profile", header.profile)?;
-    object.put("level", header.level)?;
-    object.put("progressive", u32::from(header.progressive))?;
-    object.put("horizontal_size", header.horizontal_size)?;
-    object.put("vertical_size", header.vertical_size)?;
-    object.put("chroma_format", header.chroma_format)?;
-    object.put("precision", header.precision)?;
-    object.put("aspect", header.aspect)?;
-    object.put("frame_rate_code", header.frame_rate_code)?;
-    object.put("bit_rate_low", header.bit_rate % BIT_RATE_LOW)?;
-    object.put("bit_rate_high", header.bit_rate / BIT_RATE_LOW)?;
-    object.put("low_delay", u32::from(header.low_delay))?;
-    object.put("buffer_size", header.buffer_size)
 }
 
 fn worked_out_json(object: &mut Object, header: &SequenceHeader) -> Written {
@@ -312,13 +309,7 @@ fn colour_json(object: &mut Object, colour: Colour) -> Written {
 
 /// The number as a text: it has up to 64 bits, and readers of JSON round what is over 2^53.
 fn copyright_json(object: &mut Object, unit: usize, copyright: &CopyrightExtension) -> Written {
-    let [one, two, three] = copyright_parts(copyright.number);
     object.put("unit", unit)?;
-    object.put("flag", u32::from(copyright.flag))?;
-    object.put("owner", copyright.owner)?;
-    object.put("original", u32::from(copyright.original))?;
-    for (name, part) in [("part_one", one), ("part_two", two), ("part_three", three)] {
-        object.put(name, part as i64)?;
-    }
+    object.fields(&copyright_fields(copyright))?;
     object.object("worked_out", |o| o.put("number", copyright.number.to_string()))
 }

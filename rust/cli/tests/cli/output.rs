@@ -1,7 +1,6 @@
 //! What happens to output: it is written as it comes, to a reader who may have seen enough, or to nowhere.
 
 use std::io::{BufRead, BufReader};
-use std::process::{Command, Stdio};
 
 use crate::support::*;
 
@@ -42,13 +41,7 @@ fn a_closed_pipe_is_no_failure() {
         &["file", &recording, "--json"],
         &["units", &recording],
     ] {
-        let mut child = Command::new(env!("CARGO_BIN_EXE_avsplus"))
-            .args(arguments)
-            .stdin(Stdio::null())
-            .stdout(Stdio::piped())
-            .stderr(Stdio::piped())
-            .spawn()
-            .unwrap();
+        let mut child = started(arguments);
         // A few bytes are read, and all others are not.
         let mut output = BufReader::with_capacity(16, child.stdout.take().unwrap());
         assert!(!output.fill_buf().unwrap().is_empty());

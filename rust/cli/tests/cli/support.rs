@@ -3,7 +3,7 @@
 use std::fs;
 use std::io::Write;
 use std::path::PathBuf;
-use std::process::{Command, Stdio};
+use std::process::{Child, Command, Stdio};
 
 use crate::json_reader::{parse, Json};
 
@@ -52,15 +52,20 @@ pub fn avsplus(arguments: &[&str]) -> Ran {
     avsplus_reading(arguments, &[])
 }
 
-/// Runs the program with bytes on standard input.
-pub fn avsplus_reading(arguments: &[&str], input: &[u8]) -> Ran {
-    let mut child = Command::new(env!("CARGO_BIN_EXE_avsplus"))
+/// Starts the program, its standard streams at pipes.
+pub fn started(arguments: &[&str]) -> Child {
+    Command::new(env!("CARGO_BIN_EXE_avsplus"))
         .args(arguments)
         .stdin(Stdio::piped())
         .stdout(Stdio::piped())
         .stderr(Stdio::piped())
         .spawn()
-        .unwrap();
+        .unwrap()
+}
+
+/// Runs the program with bytes on standard input.
+pub fn avsplus_reading(arguments: &[&str], input: &[u8]) -> Ran {
+    let mut child = started(arguments);
     // The program may end before it has read all.
     let _ = child.stdin.take().unwrap().write_all(input);
     let done = child.wait_with_output().unwrap();
