@@ -1,5 +1,6 @@
-//! Runs the program on the worked examples of the specification.
+//! Runs the program: on worked examples, on generated inputs beside the independent decoder, and in wrong ways.
 
+mod compared;
 mod json_reader;
 mod output;
 mod payloads;
