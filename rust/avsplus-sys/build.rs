@@ -14,6 +14,10 @@ fn library_folder() -> PathBuf {
 
 fn main() {
     let folder = library_folder();
+    if folder.is_relative() {
+        eprintln!("AVSPLUS_LIB_DIR is not a whole path: {}", folder.display());
+        process::exit(1);
+    }
     let archive = folder.join("libavsplus.a");
     println!("cargo:rerun-if-env-changed=AVSPLUS_LIB_DIR");
     println!("cargo:rerun-if-changed={}", archive.display());

@@ -6,7 +6,7 @@ use crate::calls;
 use crate::payload::Payload;
 use crate::refused::{done, Reason, Refused};
 
-/// Where a bin decoder stands in its payload.
+/// Where a bin decoder stands in its payload: a state is good for the payload that gave it.
 #[derive(Debug, Clone, Copy, PartialEq, Eq, Hash)]
 pub struct State {
     /// rS, at most `vs`.
@@ -63,6 +63,12 @@ impl Context {
     }
 }
 
+impl Default for Context {
+    fn default() -> Context {
+        Context::FRESH
+    }
+}
+
 impl Payload<'_> {
     /// Starts the bin decoder on the payload.
     ///
@@ -72,7 +78,7 @@ impl Payload<'_> {
     /// let payload = Payload::whole(&[0x80, 0x00]);
     /// let mut state = payload.start()?;
     /// let (before, mut context) = (state, Context::FRESH);
-    /// assert_eq!(payload.decode(&mut state, &mut context), Err(Reason::PayloadOut.into()));
+    /// assert_eq!(payload.decode(&mut state, &mut context).unwrap_err().reason, Reason::PayloadOut);
     /// assert_eq!((state, context), (before, Context::FRESH));
     /// # Ok::<(), avsplus::Refused>(())
     /// ```

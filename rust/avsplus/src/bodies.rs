@@ -18,23 +18,26 @@ pub struct Ratio {
 
 impl fmt::Display for Ratio {
     fn fmt(&self, f: &mut fmt::Formatter<'_>) -> fmt::Result {
-        write!(f, "{}/{}", self.numerator, self.denominator)
+        f.pad(&format!("{}/{}", self.numerator, self.denominator))
     }
 }
 
 /// What an aspect says of the display.
 #[derive(Debug, Clone, Copy, PartialEq, Eq, Hash)]
 pub enum DisplayRatio {
-    /// Samples are square, so that the sizes say it. Aspect 1.
+    /// Samples are square. Aspect 1, which gives no ratio.
     SquareSamples,
     /// The display's ratio. Aspects 2 to 4.
     Ratio(Ratio),
 }
 
+/// The aspect of square samples.
+const SQUARE: u32 = 1;
+
 impl fmt::Display for DisplayRatio {
     fn fmt(&self, f: &mut fmt::Formatter<'_>) -> fmt::Result {
         match self {
-            DisplayRatio::SquareSamples => f.write_str("square samples"),
+            DisplayRatio::SquareSamples => f.pad("square samples"),
             DisplayRatio::Ratio(ratio) => ratio.fmt(f),
         }
     }
@@ -61,11 +64,11 @@ pub struct SequenceHeader {
     pub aspect: u32,
     /// Frame rate code, 1 to 8.
     pub frame_rate_code: u32,
-    /// Bit rate, put together from its two parts: high * 262,144 + low.
+    /// Bit rate as the stream has it, in the standard's unit; put together from its two parts: high * 262,144 + low.
     pub bit_rate: u32,
     /// Whether the sequence is coded for low delay.
     pub low_delay: bool,
-    /// Buffer size.
+    /// Buffer size as the stream has it, in the standard's unit.
     pub buffer_size: u32,
     /// Macroblocks across.
     pub macroblock_columns: u32,
@@ -84,15 +87,10 @@ impl SequenceHeader {
         let numbers: [u32; AVSPLUS_HEADER_NUMBERS] = words(numbers)?;
         let [profile, level, progressive, horizontal_size, vertical_size, chroma_format, precision, rest @ ..] = numbers;
         let [aspect, frame_rate_code, bit_rate, low_delay, buffer_size, macroblock_columns, macroblock_rows] = rest;
-        let display_ratio = match (aspect, display_ratio(aspect)?) {
-            (_, Some(ratio)) => DisplayRatio::Ratio(ratio),
-            (1, None) => DisplayRatio::SquareSamples,
-            _ => return Err(Reason::Malformed.into()),
-        };
         Ok(SequenceHeader {
             profile,
             level,
-            progressive: progressive != 0,
+            progressive: truth(progressive)?,
             horizontal_size,
             vertical_size,
             chroma_format,
@@ -100,12 +98,12 @@ impl SequenceHeader {
             aspect,
             frame_rate_code,
             bit_rate,
-            low_delay: low_delay != 0,
+            low_delay: truth(low_delay)?,
             buffer_size,
             macroblock_columns,
             macroblock_rows,
             frame_rate: frame_rate(frame_rate_code)?.ok_or(Reason::Malformed)?,
-            display_ratio,
+            display_ratio: display_ratio(aspect)?.ok_or(Reason::Malformed)?,
         })
     }
 }
@@ -178,6 +176,11 @@ pub struct CopyrightExtension {
     pub number: u64,
 }
 
+/// The number of a display extension.
+const DISPLAY: u64 = 2;
+/// The number of a copyright extension.
+const COPYRIGHT: u64 = 4;
+
 /// What an extension's body says.
 #[derive(Debug, Clone, Copy, PartialEq, Eq, Hash)]
 pub enum Extension {
@@ -193,8 +196,8 @@ impl Extension {
     /// Its number, which the first four bits of the body say: 2 for a display extension, 4 for a copyright extension.
     pub fn number(&self) -> u8 {
         match self {
-            Extension::Display(_) => 2,
-            Extension::Copyright(_) => 4,
+            Extension::Display(_) => DISPLAY as u8,
+            Extension::Copyright(_) => COPYRIGHT as u8,
             Extension::Opaque(number) => *number,
         }
     }
@@ -206,17 +209,17 @@ impl Extension {
                 let number = u8::try_from(number).map_err(|_| Reason::Malformed)?;
                 Ok(Extension::Opaque(number))
             }
-            [_, flag, owner, original, number] => {
+            [COPYRIGHT, flag, owner, original, number] => {
                 let [flag, owner, original] = words(&[flag, owner, original])?;
                 Ok(Extension::Copyright(CopyrightExtension {
-                    flag: flag != 0,
+                    flag: truth(flag)?,
                     owner,
-                    original: original != 0,
+                    original: truth(original)?,
                     number,
                 }))
             }
-            [_, ref display @ ..] => DisplayExtension::from_numbers(display).map(Extension::Display),
-            [] => Err(Reason::Malformed.into()),
+            [DISPLAY, ref display @ ..] => DisplayExtension::from_numbers(display).map(Extension::Display),
+            _ => Err(Reason::Malformed.into()),
         }
     }
 }
@@ -252,15 +255,23 @@ pub fn frame_rate(code: u32) -> Result<Option<Ratio>, Refused> {
     ratio(|numbers| calls::frame_rate(code, numbers))
 }
 
-/// The display ratio of an aspect: none for 1, which says square samples, and for what is no aspect.
+/// What an aspect says of the display: none for what is no aspect, which is outside 1 to 4.
 ///
 /// ```
+/// use avsplus::DisplayRatio;
+///
 /// assert_eq!(avsplus::display_ratio(3)?.unwrap().to_string(), "16/9");
-/// assert_eq!(avsplus::display_ratio(1)?, None);
+/// assert_eq!(avsplus::display_ratio(1)?, Some(DisplayRatio::SquareSamples));
+/// assert_eq!(avsplus::display_ratio(5)?, None);
 /// # Ok::<(), avsplus::Refused>(())
 /// ```
-pub fn display_ratio(aspect: u32) -> Result<Option<Ratio>, Refused> {
-    ratio(|numbers| calls::display_ratio(aspect, numbers))
+pub fn display_ratio(aspect: u32) -> Result<Option<DisplayRatio>, Refused> {
+    let ratio = ratio(|numbers| calls::display_ratio(aspect, numbers))?;
+    Ok(match (aspect, ratio) {
+        (_, Some(ratio)) => Some(DisplayRatio::Ratio(ratio)),
+        (SQUARE, None) => Some(DisplayRatio::SquareSamples),
+        (_, None) => None,
+    })
 }
 
 /// Reads the body of a sequence header.
@@ -275,7 +286,7 @@ pub fn display_ratio(aspect: u32) -> Result<Option<Ratio>, Refused> {
 /// assert_eq!((header.frame_rate.to_string(), header.display_ratio.to_string()), ("25/1".into(), "16/9".into()));
 ///
 /// body[14] = 0x00;
-/// assert_eq!(avsplus::sequence_header(&body), Err(Reason::Stuffing.into()));
+/// assert_eq!(avsplus::sequence_header(&body).unwrap_err().reason, Reason::Stuffing);
 /// # Ok::<(), avsplus::Refused>(())
 /// ```
 pub fn sequence_header(body: &[u8]) -> Result<SequenceHeader, Refused> {
@@ -298,7 +309,7 @@ pub fn sequence_header(body: &[u8]) -> Result<SequenceHeader, Refused> {
 ///     other => panic!("{:?}", other),
 /// }
 /// assert_eq!(avsplus::extension(&body, Scope::Picture)?, Extension::Opaque(2));
-/// assert_eq!(avsplus::extension(&[], Scope::Picture), Err(Reason::Short.into()));
+/// assert_eq!(avsplus::extension(&[], Scope::Picture).unwrap_err().reason, Reason::Short);
 /// # Ok::<(), avsplus::Refused>(())
 /// ```
 pub fn extension(body: &[u8], scope: Scope) -> Result<Extension, Refused> {
@@ -318,6 +329,15 @@ fn words<const N: usize>(numbers: &[u64]) -> Result<[u32; N], Refused> {
     Ok(words)
 }
 
+/// A field of one bit.
+fn truth(number: u32) -> Result<bool, Refused> {
+    match number {
+        0 => Ok(false),
+        1 => Ok(true),
+        _ => Err(Reason::Malformed.into()),
+    }
+}
+
 /// Lends numbers to a call and makes a record of those that it hands over.
 fn read<T>(
     numbers: &mut [u64],
@@ -335,7 +355,10 @@ fn ratio(call: impl FnOnce(&mut [u64]) -> Result<Answer, Refused>) -> Result<Opt
         [] => Ok(None),
         given => {
             let [numerator, denominator] = words(given)?;
-            Ok(Some(Ratio { numerator, denominator }))
+            match denominator {
+                0 => Err(Reason::Malformed.into()),
+                _ => Ok(Some(Ratio { numerator, denominator })),
+            }
         }
     };
     read(&mut [0; AVSPLUS_RATIO_NUMBERS], call, record)
@@ -345,16 +368,20 @@ fn ratio(call: impl FnOnce(&mut [u64]) -> Result<Answer, Refused>) -> Result<Opt
 mod tests {
     use super::*;
 
-    /// Counts that have a record; `make` says whether one is made of so many numbers.
-    fn counts(make: impl Fn(&[u64]) -> bool) -> Vec<usize> {
-        (0..30).filter(|&count| make(&[1; 30][..count])).collect()
+    /// Counts that have a record, where the first number is this and all others 1; `make` says whether one is made of so many.
+    fn counts(first: u64, make: impl Fn(&[u64]) -> bool) -> Vec<usize> {
+        let mut numbers = [1; 30];
+        numbers[0] = first;
+        (0..30).filter(|&count| make(&numbers[..count])).collect()
     }
 
     #[test]
     fn other_counts_are_no_records() {
-        assert_eq!(counts(|n| SequenceHeader::from_numbers(n).is_ok()), [14]);
-        assert_eq!(counts(|n| DisplayExtension::from_numbers(n).is_ok()), [5, 8]);
-        assert_eq!(counts(|n| Extension::from_numbers(n).is_ok()), [1, 5, 6, 9]);
+        assert_eq!(counts(1, |n| SequenceHeader::from_numbers(n).is_ok()), [14]);
+        assert_eq!(counts(1, |n| DisplayExtension::from_numbers(n).is_ok()), [5, 8]);
+        assert_eq!(counts(2, |n| Extension::from_numbers(n).is_ok()), [1, 6, 9]);
+        assert_eq!(counts(4, |n| Extension::from_numbers(n).is_ok()), [1, 5]);
+        assert_eq!(counts(9, |n| Extension::from_numbers(n).is_ok()), [1]);
     }
 
     #[test]
@@ -362,9 +389,13 @@ mod tests {
         let wide = u64::from(u32::MAX) + 1;
         assert_eq!(words(&[1, wide]), Err::<[u32; 2], _>(Reason::Malformed.into()));
         assert_eq!(Extension::from_numbers(&[256]), Err(Reason::Malformed.into()));
-        let mut header = [1; 14];
-        header[8] = 9;
-        assert_eq!(SequenceHeader::from_numbers(&header), Err(Reason::Malformed.into()));
+        assert_eq!(Extension::from_numbers(&[4, 2, 0, 0, 0]), Err(Reason::Malformed.into()));
+        // Flags that are no bit, an aspect and a frame rate code that a good header has not.
+        for (index, wrong) in [(2, 2), (10, 2), (7, 5), (8, 9)] {
+            let mut header = [1; 14];
+            header[index] = wrong;
+            assert_eq!(SequenceHeader::from_numbers(&header), Err(Reason::Malformed.into()));
+        }
     }
 
     #[test]

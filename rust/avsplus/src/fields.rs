@@ -1,7 +1,8 @@
 //! Where each field of a layout lies in its body, most significant bit first.
 
-/// A field of a layout.
+/// A field of a layout. Later versions may say more of it.
 #[derive(Debug, Clone, Copy, PartialEq, Eq)]
+#[non_exhaustive]
 pub struct Field {
     /// Its name.
     pub name: &'static str,
@@ -16,7 +17,7 @@ const fn field(name: &'static str, first_bit: u32, width: u32) -> Field {
 }
 
 /// The sequence header: 112 bits.
-pub const SEQUENCE_HEADER: [Field; 16] = [
+pub const SEQUENCE_HEADER: &[Field] = &[
     field("profile", 0, 8),
     field("level", 8, 8),
     field("progressive", 16, 1),
@@ -36,7 +37,7 @@ pub const SEQUENCE_HEADER: [Field; 16] = [
 ];
 
 /// The display extension whose colour is not given: 40 bits.
-pub const DISPLAY: [Field; 8] = [
+pub const DISPLAY: &[Field] = &[
     field("number", 0, 4),
     field("format", 4, 3),
     field("range", 7, 1),
@@ -48,7 +49,7 @@ pub const DISPLAY: [Field; 8] = [
 ];
 
 /// The display extension whose colour is given: 64 bits.
-pub const DISPLAY_WITH_COLOUR: [Field; 11] = [
+pub const DISPLAY_WITH_COLOUR: &[Field] = &[
     field("number", 0, 4),
     field("format", 4, 3),
     field("range", 7, 1),
@@ -63,7 +64,7 @@ pub const DISPLAY_WITH_COLOUR: [Field; 11] = [
 ];
 
 /// The copyright extension: 88 bits.
-pub const COPYRIGHT: [Field; 11] = [
+pub const COPYRIGHT: &[Field] = &[
     field("number", 0, 4),
     field("flag", 4, 1),
     field("owner", 5, 8),
@@ -82,9 +83,10 @@ pub const COPYRIGHT: [Field; 11] = [
 /// ```
 /// use avsplus::fields;
 ///
-/// let field = fields::find(&fields::SEQUENCE_HEADER, "vertical size").unwrap();
+/// let field = fields::find(fields::SEQUENCE_HEADER, "vertical size").unwrap();
 /// assert_eq!((field.first_bit, field.width), (31, 14));
-/// assert_eq!(fields::find(&fields::DISPLAY, "primaries"), None);
+/// assert_eq!(fields::find(fields::SEQUENCE_HEADER, "marker").unwrap().first_bit, 76);
+/// assert_eq!(fields::find(fields::DISPLAY, "primaries"), None);
 /// ```
 pub fn find(layout: &[Field], name: &str) -> Option<Field> {
     layout.iter().copied().find(|field| field.name == name)
@@ -104,9 +106,9 @@ mod tests {
 
     #[test]
     fn first_bits_follow_from_widths() {
-        assert_eq!(total(&SEQUENCE_HEADER), 112);
-        assert_eq!(total(&DISPLAY), 40);
-        assert_eq!(total(&DISPLAY_WITH_COLOUR), 64);
-        assert_eq!(total(&COPYRIGHT), 88);
+        assert_eq!(total(SEQUENCE_HEADER), 112);
+        assert_eq!(total(DISPLAY), 40);
+        assert_eq!(total(DISPLAY_WITH_COLOUR), 64);
+        assert_eq!(total(COPYRIGHT), 88);
     }
 }

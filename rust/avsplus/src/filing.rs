@@ -21,25 +21,47 @@ pub const ROW_WORDS: usize = sys::AVSPLUS_ROW_WORDS;
 /// assert_eq!(avsplus::next_start_code(&stream, 6), Ok(9));
 /// ```
 pub fn next_start_code(stream: &[u8], from: usize) -> Result<usize, Refused> {
-    calls::next_start_code(stream, from)
+    match calls::next_start_code(stream, from)? {
+        offset if offset <= stream.len() => Ok(offset),
+        _ => Err(Reason::Malformed.into()),
+    }
 }
 
-/// Checks a stream and answers how many units it has. Refused as filing is, but never with FULL.
+/// The totals of a filed stream. Later versions may have more.
+#[derive(Debug, Clone, Copy, PartialEq, Eq, Hash)]
+#[non_exhaustive]
+pub struct Totals {
+    /// How many units it has.
+    pub units: usize,
+}
+
+impl Totals {
+    /// Of the library's answer. MALFORMED for more units than a stream of this length can have: each takes four bytes or more.
+    fn of(stream: &[u8], answer: sys::Answer) -> Result<Totals, Refused> {
+        match of_stream(answer)? {
+            units if units <= stream.len() / 4 => Ok(Totals { units }),
+            _ => Err(Reason::Malformed.into()),
+        }
+    }
+}
+
+/// Checks a stream and answers its totals. Refused as filing is, but never with FULL.
 ///
 /// ```
 /// let header = [0x48, 0x40, 0x0F, 0x00, 0x21, 0xC2, 0x4C, 0xC4, 0xE2, 0x08, 0x00, 0x20, 0x02, 0x00, 0x80];
 /// let rest = [0, 0, 1, 0xB3, 0x80, 0, 0, 1, 0x00, 0x80, 0, 0, 1, 0xB1];
 /// let stream = [&[0, 0, 1, 0xB0][..], &header, &rest].concat();
 ///
-/// assert_eq!(avsplus::check(&stream), Ok(4));
+/// assert_eq!(avsplus::check(&stream)?.units, 4);
 /// assert_eq!(avsplus::check(&stream[..29]).unwrap_err().to_string(), "UNENDED (11) at byte 29");
+/// # Ok::<(), avsplus::Refused>(())
 /// ```
-pub fn check(stream: &[u8]) -> Result<usize, Refused> {
-    of_stream(calls::check(stream)?)
+pub fn check(stream: &[u8]) -> Result<Totals, Refused> {
+    Totals::of(stream, calls::check(stream)?)
 }
 
-/// Files a stream into lent rows and answers how many units it has. Each takes three words: code, offset of the start code,
-/// length of the body; later words stay.
+/// Files a stream into lent rows and answers its totals. Each unit takes three words: code, offset of the start code, length of the
+/// body; later words stay. FULL, last of all, where fewer words are lent.
 ///
 /// ```
 /// use avsplus::Reason;
@@ -49,14 +71,15 @@ pub fn check(stream: &[u8]) -> Result<usize, Refused> {
 /// let stream = [&[0, 0, 1, 0xB0][..], &header, &rest].concat();
 ///
 /// let mut rows = [0; 12];
-/// assert_eq!(avsplus::file_into(&stream, &mut rows), Ok(4));
+/// assert_eq!(avsplus::file_into(&stream, &mut rows)?.units, 4);
 /// assert_eq!(rows, [176, 0, 15, 179, 19, 1, 0, 24, 1, 177, 29, 0]);
 ///
 /// let refused = avsplus::file_into(&stream, &mut rows[..11]).unwrap_err();
 /// assert_eq!(refused.reason, Reason::Full);
+/// # Ok::<(), avsplus::Refused>(())
 /// ```
-pub fn file_into(stream: &[u8], rows: &mut [u32]) -> Result<usize, Refused> {
-    of_stream(calls::file(stream, rows)?)
+pub fn file_into(stream: &[u8], rows: &mut [u32]) -> Result<Totals, Refused> {
+    Totals::of(stream, calls::file(stream, rows)?)
 }
 
 /// Whether row `i` exists: `rows` holds it, and its body ends within the stream.
@@ -78,7 +101,7 @@ pub fn row_exists(stream: &[u8], rows: &[u32], i: usize) -> Result<bool, Refused
 ///
 /// let stream = [0, 0, 1, 0xB2, 0x41, 0x42];
 /// assert_eq!(avsplus::row_body(&stream, &[0xB2, 0, 2], 0), Ok(&stream[4..]));
-/// assert_eq!(avsplus::row_body(&stream, &[0xB2, 0, 3], 0), Err(Reason::NoRow.into()));
+/// assert_eq!(avsplus::row_body(&stream, &[0xB2, 0, 3], 0).unwrap_err().reason, Reason::NoRow);
 /// ```
 pub fn row_body<'a>(stream: &'a [u8], rows: &[u32], i: usize) -> Result<&'a [u8], Refused> {
     if !row_exists(stream, rows, i)? {
@@ -89,8 +112,9 @@ pub fn row_body<'a>(stream: &'a [u8], rows: &[u32], i: usize) -> Result<&'a [u8]
     Ok(body.ok_or(Reason::Malformed)?)
 }
 
-/// A group's record.
+/// A group's record. Later versions may have more.
 #[derive(Debug, Clone, Copy, PartialEq, Eq, Hash)]
+#[non_exhaustive]
 pub struct Group {
     /// Its sequence header.
     pub header: SequenceHeader,
@@ -127,7 +151,7 @@ impl Group {
 /// let group = avsplus::group(&stream, 0)?;
 /// assert_eq!(group.header.frame_rate.to_string(), "25/1");
 /// assert_eq!(group.display, None);
-/// assert_eq!(avsplus::group(&stream, 1), Err(Reason::NoRow.into()));
+/// assert_eq!(avsplus::group(&stream, 1).unwrap_err().reason, Reason::NoRow);
 /// # Ok::<(), avsplus::Refused>(())
 /// ```
 pub fn group(stream: &[u8], g: usize) -> Result<Group, Refused> {
@@ -146,5 +170,18 @@ mod tests {
             .filter(|&count| Group::from_numbers(&[1; 30][..count]).is_ok())
             .collect();
         assert_eq!(counts, [14, 19, 22]);
+    }
+
+    #[test]
+    fn more_units_than_bytes_are_an_error() {
+        let answer = |count| sys::Answer {
+            status: 0,
+            offset: 0,
+            count,
+        };
+        assert_eq!(Totals::of(&[0; 8], answer(2)), Ok(Totals { units: 2 }));
+        for count in [3, usize::MAX] {
+            assert_eq!(Totals::of(&[0; 8], answer(count)), Err(Reason::Malformed.into()));
+        }
     }
 }

@@ -26,7 +26,7 @@ pub enum Kind {
 }
 
 impl Kind {
-    /// The kind of a unit by its code byte: none for B4, B8 and B9 to FF.
+    /// The kind of a unit by its code byte: none for B4 and for B8 to FF.
     ///
     /// ```
     /// use avsplus::Kind;

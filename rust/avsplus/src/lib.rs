@@ -4,8 +4,10 @@
 //! lists its units and groups; [`sequence_header`] and [`extension`] read single bodies; [`remove_escapes`] gives a [`Payload`],
 //! which has Exp-Golomb numbers and bins.
 //!
-//! No call keeps what it is lent, and a refusal leaves all lent memory as it was. Every call is an error where the library that
-//! is linked has another interface than this crate was written for; the declarations are the crate `avsplus-sys`.
+//! The library keeps nothing of what it is lent, and a refusal leaves all lent memory as it was. Whatever asks the library is an
+//! error where the one that is linked has another interface than this crate was written for; the declarations are the crate
+//! `avsplus-sys`. There is one error, [`Refused`]; which refusals a call can have, and exactly when, is in docs/RULES.md of the
+//! project.
 //!
 //! ```
 //! let header = [0x48, 0x40, 0x0F, 0x00, 0x21, 0xC2, 0x4C, 0xC4, 0xE2, 0x08, 0x00, 0x20, 0x02, 0x00, 0x80];
@@ -41,16 +43,16 @@ pub use bodies::{
     display_ratio, extension, frame_rate, sequence_header, Colour, CopyrightExtension, DisplayExtension, DisplayRatio,
     Extension, Ratio, Scope, SequenceHeader,
 };
-pub use filing::{check, file_into, group, next_start_code, row_body, row_exists, Group, LONGEST_STREAM, ROW_WORDS};
+pub use filing::{check, file_into, group, next_start_code, row_body, row_exists, Group, Totals, LONGEST_STREAM, ROW_WORDS};
 pub use kinds::Kind;
 pub use payload::{remove_escapes, remove_escapes_into, Payload, LONGEST_PAYLOAD};
-pub use recording::{file, Recording, Unit};
+pub use recording::{file, Groups, Recording, Unit, Units};
 pub use refused::{Reason, Refused};
 
-/// The interface that this crate was written for: [`version`] is it where every call is answered.
+/// The number of the interface that this crate was written for.
 pub const INTERFACE: u32 = avsplus_sys::AVSPLUS_VERSION;
 
-/// The number of the library's interface.
+/// The number of the library's interface: where it is not [`INTERFACE`], every other call of the library is an error.
 ///
 /// ```
 /// assert_eq!(avsplus::version(), avsplus::INTERFACE);

@@ -1,6 +1,7 @@
 //! Payloads: bytes with the count of their bits; escape bits and Exp-Golomb numbers.
 
 use std::borrow::Cow;
+use std::fmt;
 
 use avsplus_sys as sys;
 
@@ -21,10 +22,21 @@ pub const LONGEST_PAYLOAD: usize = sys::AVSPLUS_LONGEST_PAYLOAD as usize;
 /// assert_eq!(payload.unsigned_golomb(8).unwrap_err().reason, Reason::PayloadOut);
 /// # Ok::<(), avsplus::Refused>(())
 /// ```
-#[derive(Debug, Clone)]
+#[derive(Clone)]
 pub struct Payload<'a> {
     bytes: Cow<'a, [u8]>,
     bits: usize,
+}
+
+impl fmt::Debug for Payload<'_> {
+    /// How long it is, and not its bytes, which may be many.
+    fn fmt(&self, f: &mut fmt::Formatter<'_>) -> fmt::Result {
+        let bytes = self.bytes.len();
+        f.debug_struct("Payload")
+            .field("bytes", &bytes)
+            .field("bits", &self.bits)
+            .finish()
+    }
 }
 
 impl<'a> Payload<'a> {
@@ -49,6 +61,7 @@ impl<'a> Payload<'a> {
     }
 
     /// The same with bytes of its own.
+    #[must_use]
     pub fn into_owned(self) -> Payload<'static> {
         Payload {
             bytes: Cow::Owned(self.bytes.into_owned()),
@@ -75,12 +88,15 @@ impl<'a> Payload<'a> {
     /// assert_eq!(Payload::first_bits(&[0b0100_0000], 3).unsigned_golomb(0), Ok((1, 3)));
     /// let payload = Payload::first_bits(&[0b0110_0000], 3);
     /// assert_eq!(payload.unsigned_golomb(0), Ok((2, 3)));
-    /// assert_eq!(payload.unsigned_golomb(3), Err(Reason::PayloadOut.into()));
+    /// assert_eq!(payload.unsigned_golomb(3).unwrap_err().reason, Reason::PayloadOut);
     /// ```
     pub fn unsigned_golomb(&self, place: usize) -> Result<(u32, usize), Refused> {
         let golomb = calls::unsigned_golomb(&self.bytes, self.bits, place)?;
         done(golomb.status)?;
-        Ok((golomb.number, golomb.place))
+        match golomb.number {
+            sys::AVSPLUS_NO_NUMBER => Err(Reason::Malformed.into()),
+            number => Ok((number, golomb.place)),
+        }
     }
 
     /// The same as a signed number.
@@ -94,7 +110,10 @@ impl<'a> Payload<'a> {
     pub fn signed_golomb(&self, place: usize) -> Result<(i32, usize), Refused> {
         let signed = calls::signed_golomb(&self.bytes, self.bits, place)?;
         done(signed.status)?;
-        Ok((signed.number, signed.place))
+        match signed.number {
+            sys::AVSPLUS_NO_SIGNED_NUMBER => Err(Reason::Malformed.into()),
+            number => Ok((number, signed.place)),
+        }
     }
 }
 

@@ -6,7 +6,7 @@ use std::fmt;
 use avsplus_sys as sys;
 
 /// Why something is refused. Later versions may have more reasons.
-#[derive(Debug, Clone, Copy, PartialEq, Eq, Hash, PartialOrd, Ord)]
+#[derive(Debug, Clone, Copy, PartialEq, Eq, Hash)]
 #[non_exhaustive]
 pub enum Reason {
     /// The stream does not begin with 00 00 01; it may have fewer bytes, or none.
@@ -19,7 +19,7 @@ pub enum Reason {
     Unknown,
     /// The grammar has no such unit here.
     OutOfPlace,
-    /// The body is too short for its layout.
+    /// The body is too short for its layout; of a picture or slice, it has no byte but 00.
     Short,
     /// A marker bit is 0.
     Marker,
@@ -74,7 +74,7 @@ const TABLE: [Entry; 16] = [
     entry(Reason::Overlap, sys::AVSPLUS_OVERLAP, "OVERLAP", "code byte 00 is followed by 00 01"),
     entry(Reason::Unknown, sys::AVSPLUS_UNKNOWN, "UNKNOWN", "the code byte names no unit"),
     entry(Reason::OutOfPlace, sys::AVSPLUS_OUT_OF_PLACE, "OUT OF PLACE", "no such unit may stand here"),
-    entry(Reason::Short, sys::AVSPLUS_SHORT, "SHORT", "the body is too short for its layout"),
+    entry(Reason::Short, sys::AVSPLUS_SHORT, "SHORT", "the body has too few bytes, or none but 00"),
     entry(Reason::Marker, sys::AVSPLUS_MARKER, "MARKER", "a marker bit is 0"),
     entry(Reason::Value, sys::AVSPLUS_VALUE, "VALUE", "a value is ruled out"),
     entry(Reason::Stuffing, sys::AVSPLUS_STUFFING, "STUFFING", "the body's end is not as required"),
@@ -140,11 +140,12 @@ impl Reason {
 }
 
 impl fmt::Display for Reason {
-    /// Name and number, where it has one.
+    /// Name and number, where it has one; of another interface its version.
     fn fmt(&self, f: &mut fmt::Formatter<'_>) -> fmt::Result {
-        match self.number() {
-            Some(number) => write!(f, "{} ({})", self.name(), number),
-            None => f.write_str(self.name()),
+        match (self, self.number()) {
+            (_, Some(number)) => f.pad(&format!("{} ({})", self.name(), number)),
+            (Reason::OtherInterface(version), None) => f.pad(&format!("{} (version {})", self.name(), version)),
+            (_, None) => f.pad(self.name()),
         }
     }
 }
@@ -161,6 +162,8 @@ pub struct Refused {
 }
 
 impl From<Reason> for Refused {
+    /// A refusal that carries nothing but its reason. To ask for which reason something was refused, compare `reason`: refusals may
+    /// come to carry more.
     fn from(reason: Reason) -> Refused {
         Refused { reason, offset: None }
     }
@@ -169,7 +172,7 @@ impl From<Reason> for Refused {
 impl fmt::Display for Refused {
     fn fmt(&self, f: &mut fmt::Formatter<'_>) -> fmt::Result {
         match self.offset {
-            Some(offset) => write!(f, "{} at byte {}", self.reason, offset),
+            Some(offset) => f.pad(&format!("{} at byte {}", self.reason, offset)),
             None => self.reason.fmt(f),
         }
     }
@@ -185,11 +188,12 @@ pub(crate) fn done(status: u32) -> Result<(), Refused> {
     }
 }
 
-/// An answer about a stream as a result: its count, or its refusal with the offset, which NO ROW has not.
+/// An answer about a stream as a result: its count, or its refusal with the offset. NO ROW has none, and whether a status that is
+/// not known has one is not known.
 pub(crate) fn of_stream(answer: sys::Answer) -> Result<usize, Refused> {
     match done(answer.status) {
         Ok(()) => Ok(answer.count),
-        Err(refused) if refused.reason == Reason::NoRow => Err(refused),
+        Err(refused) if matches!(refused.reason, Reason::NoRow | Reason::Unlisted(_)) => Err(refused),
         Err(Refused { reason, .. }) => Err(Refused {
             reason,
             offset: Some(answer.offset),
@@ -210,24 +214,31 @@ mod tests {
     use super::*;
 
     #[test]
-    fn numbers_run_from_1_to_16() {
-        for (number, reason) in (1..).zip(Reason::all()) {
-            assert_eq!(reason.number(), Some(number));
+    fn numbers_and_names_of_the_reasons() {
+        let expected = [
+            (Reason::NoCode, 1, "NO CODE"),
+            (Reason::Cut, 2, "CUT"),
+            (Reason::Overlap, 3, "OVERLAP"),
+            (Reason::Unknown, 4, "UNKNOWN"),
+            (Reason::OutOfPlace, 5, "OUT OF PLACE"),
+            (Reason::Short, 6, "SHORT"),
+            (Reason::Marker, 7, "MARKER"),
+            (Reason::Value, 8, "VALUE"),
+            (Reason::Stuffing, 9, "STUFFING"),
+            (Reason::Twice, 10, "TWICE"),
+            (Reason::Unended, 11, "UNENDED"),
+            (Reason::Full, 12, "FULL"),
+            (Reason::TooLong, 13, "TOO LONG"),
+            (Reason::PayloadOut, 14, "PAYLOAD OUT"),
+            (Reason::BadState, 15, "BAD STATE"),
+            (Reason::NoRow, 16, "NO ROW"),
+        ];
+        let found = Reason::all().map(|reason| (reason, reason.number().unwrap(), reason.name()));
+        assert_eq!(found.collect::<Vec<_>>(), expected);
+        for (reason, number, _) in expected {
             assert_eq!(Reason::from_number(number), Some(reason));
         }
-        assert_eq!((Reason::all().len(), Reason::from_number(17)), (16, None));
-    }
-
-    #[test]
-    fn names_are_in_capitals_and_differ() {
-        let others = [Reason::Unlisted(17), Reason::OtherInterface(2), Reason::Malformed];
-        let mut names: Vec<&str> = Reason::all().chain(others).map(Reason::name).collect();
-        assert!(names
-            .iter()
-            .all(|name| name.bytes().all(|b| b.is_ascii_uppercase() || b == b' ')));
-        names.sort_unstable();
-        names.dedup();
-        assert_eq!(names.len(), 19);
+        assert_eq!((Reason::from_number(0), Reason::from_number(17)), (None, None));
     }
 
     #[test]
@@ -251,7 +262,7 @@ mod tests {
             (refused.reason, refused.reason.number()),
             (Reason::OtherInterface(sys::AVSPLUS_VERSION + 1), None)
         );
-        assert_eq!(refused.to_string(), "OTHER INTERFACE");
+        assert_eq!(refused.to_string(), "OTHER INTERFACE (version 2)");
     }
 
     #[test]
@@ -263,7 +274,11 @@ mod tests {
         };
         assert_eq!(of_stream(answer(8, 24)).unwrap_err().to_string(), "VALUE (8) at byte 24");
         assert_eq!(of_stream(answer(16, 0)).unwrap_err().to_string(), "NO ROW (16)");
-        assert_eq!(of_stream(answer(17, 5)).unwrap_err().to_string(), "UNLISTED (17) at byte 5");
+        assert_eq!(of_stream(answer(17, 0)).unwrap_err().to_string(), "UNLISTED (17)");
+        assert_eq!(
+            format!("{:>12}|{:<8}|", Reason::Cut, Reason::Malformed),
+            "     CUT (2)|MALFORMED|"
+        );
         assert_eq!(of_stream(answer(0, 0)), Ok(0));
     }
 }

@@ -147,12 +147,12 @@ fn holds(layout: &[Field], read: fn(&[u8]) -> Result<Read, Reason>) {
 
 #[test]
 fn headers_are_read_where_the_table_says() {
-    holds(&SEQUENCE_HEADER, read_header);
+    holds(SEQUENCE_HEADER, read_header);
 }
 
 #[test]
 fn extensions_are_read_where_the_tables_say() {
-    holds(&DISPLAY, read_extension);
-    holds(&DISPLAY_WITH_COLOUR, read_extension);
-    holds(&COPYRIGHT, read_extension);
+    holds(DISPLAY, read_extension);
+    holds(DISPLAY_WITH_COLOUR, read_extension);
+    holds(COPYRIGHT, read_extension);
 }

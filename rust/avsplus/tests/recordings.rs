@@ -59,8 +59,8 @@ fn groups_by_rows_are_groups_by_the_library() {
     );
     assert_eq!(groups[1].display, None);
     assert_eq!(groups[2].display.unwrap().colour, None);
-    assert_eq!(recording.group(3), Err(Reason::NoRow.into()));
-    assert_eq!(group(&stream, 3), Err(Reason::NoRow.into()));
+    assert_eq!(recording.group(3).unwrap_err().reason, Reason::NoRow);
+    assert_eq!(group(&stream, 3).unwrap_err().reason, Reason::NoRow);
 }
 
 #[test]
@@ -73,7 +73,8 @@ fn groups_agree_whatever_byte_is_changed() {
             let first = group(&stream, 0);
             match file(&stream) {
                 Ok(recording) => {
-                    assert_eq!(check(&stream), Ok(recording.units().len()));
+                    assert_eq!(check(&stream), Ok(recording.totals()));
+                    assert_eq!(recording.totals().units, recording.units().len());
                     assert_eq!(recording.group(0), first);
                 }
                 Err(refused) => assert_eq!((check(&stream), first), (Err(refused), Err(refused))),
@@ -106,7 +107,7 @@ fn a_refusal_leaves_rows_as_they_were() {
         Reason::Unended
     );
     assert_eq!(rows, [7; 100]);
-    assert_eq!(file_into(&stream, &mut rows), Ok(24));
+    assert_eq!(file_into(&stream, &mut rows).unwrap().units, 24);
     assert_eq!(&rows[72..], [7; 28]);
     assert_eq!(&rows[..72], file(&stream).unwrap().rows());
 }
@@ -122,7 +123,7 @@ fn rows_that_point_outside_do_not_exist() {
         [0xB2, u32::MAX, u32::MAX],
     ] {
         assert_eq!(row_exists(&stream, &row, 0), Ok(false));
-        assert_eq!(row_body(&stream, &row, 0), Err(Reason::NoRow.into()));
+        assert_eq!(row_body(&stream, &row, 0).unwrap_err().reason, Reason::NoRow);
     }
     let row = [0xB2, 0, 2];
     for (stream, rows, i) in [
@@ -156,7 +157,10 @@ fn a_copyright_extension() {
             other => panic!("{:?}", other),
         }
     }
-    assert_eq!(avsplus::extension(&COPYRIGHT[..11], Scope::Head), Err(Reason::Short.into()));
+    assert_eq!(
+        avsplus::extension(&COPYRIGHT[..11], Scope::Head).unwrap_err().reason,
+        Reason::Short
+    );
     assert_eq!(avsplus::extension(&[0xB5], Scope::Head), Ok(Extension::Opaque(11)));
 }
 
@@ -171,11 +175,11 @@ fn a_bad_state_stays_as_it_was() {
         place: 0,
     };
     let (mut state, mut context) = (bad, Context::FRESH);
-    assert_eq!(payload.decode(&mut state, &mut context), Err(Reason::BadState.into()));
+    assert_eq!(payload.decode(&mut state, &mut context).unwrap_err().reason, Reason::BadState);
     assert_eq!((state, context), (bad, Context::FRESH));
     let mut state = payload.start().unwrap();
     let mut context = Context { lg: 3, ..Context::FRESH };
-    assert_eq!(payload.decode(&mut state, &mut context), Err(Reason::BadState.into()));
+    assert_eq!(payload.decode(&mut state, &mut context).unwrap_err().reason, Reason::BadState);
     assert_eq!((state, context.lg), (payload.start().unwrap(), 3));
 }
 
@@ -185,12 +189,15 @@ fn the_bit_count_travels_with_the_bytes() {
     let raw = [0xFF, 0x00, 0x00, 0x02, 0x40, 0x01, 0x01];
     let payload = avsplus::remove_escapes(&raw).unwrap();
     assert_eq!((payload.bits(), payload.bytes().len()), (54, 7));
-    assert_eq!(payload.unsigned_golomb(8), Err(Reason::PayloadOut.into()));
+    assert_eq!(payload.unsigned_golomb(8).unwrap_err().reason, Reason::PayloadOut);
     assert!(Payload::whole(payload.bytes()).unsigned_golomb(8).is_ok());
+    let owned = Payload::first_bits(payload.bytes(), 54).into_owned();
+    assert_eq!((owned.bits(), owned.bytes()), (54, payload.bytes()));
+    assert_eq!(format!("{:?}", owned), "Payload { bytes: 7, bits: 54 }");
     let mut output = [0xAA; 9];
     let lent = avsplus::remove_escapes_into(&raw, &mut output).unwrap();
     assert_eq!((lent.bits(), lent.bytes()), (54, payload.bytes()));
-    assert_eq!(lent.signed_golomb(8), Err(Reason::PayloadOut.into()));
+    assert_eq!(lent.signed_golomb(8).unwrap_err().reason, Reason::PayloadOut);
     assert_eq!(output[7..], [0xAA; 2]);
 }
 
@@ -200,7 +207,7 @@ fn payloads_over_the_limit() {
     assert_eq!(avsplus::remove_escapes(&raw[1..]).unwrap().bits(), 524_288);
     assert_eq!(avsplus::remove_escapes(&raw).unwrap_err().reason, Reason::TooLong);
     // TOO LONG looks at the bytes, whatever the bit count.
-    assert_eq!(Payload::first_bits(&raw, 8).start(), Err(Reason::TooLong.into()));
+    assert_eq!(Payload::first_bits(&raw, 8).start().unwrap_err().reason, Reason::TooLong);
 }
 
 #[test]
@@ -215,7 +222,15 @@ fn units_know_where_they_stand() {
     for (i, unit) in units.iter().enumerate() {
         assert_eq!((unit.index, recording.unit(i)), (i, Ok(*unit)));
     }
-    assert_eq!(recording.unit(24), Err(Reason::NoRow.into()));
+    assert_eq!(recording.unit(24).unwrap_err().reason, Reason::NoRow);
+    // Each is found at once, from both ends.
+    assert_eq!((recording.units().count(), recording.groups().count()), (24, 3));
+    assert_eq!(recording.units().last(), recording.unit(23).ok());
+    assert_eq!(recording.units().nth(7).as_ref(), units.get(7));
+    assert_eq!(recording.units().nth_back(7).as_ref(), units.get(16));
+    assert_eq!(recording.groups().nth_back(2), Some(recording.group(0)));
+    assert_eq!((recording.units().nth(24), recording.groups().nth(3)), (None, None));
+    assert!((&recording).into_iter().eq(recording.units()));
     // Headers with what is in their heads, and the two pictures of each group.
     let heads = [(0, 0..4), (1, 9..10), (2, 15..17)];
     for unit in &units {
@@ -256,10 +271,10 @@ fn units_know_their_extension_and_their_zeros() {
 #[test]
 fn empty_inputs() {
     assert_eq!(file(&[]).unwrap_err().reason, Reason::NoCode);
-    assert_eq!(avsplus::sequence_header(&[]), Err(Reason::Short.into()));
+    assert_eq!(avsplus::sequence_header(&[]).unwrap_err().reason, Reason::Short);
     let nothing = avsplus::remove_escapes(&[]).unwrap();
     assert_eq!((nothing.bits(), nothing.bytes().len()), (0, 0));
-    assert_eq!(nothing.unsigned_golomb(0), Err(Reason::PayloadOut.into()));
-    assert_eq!(nothing.start(), Err(Reason::PayloadOut.into()));
+    assert_eq!(nothing.unsigned_golomb(0).unwrap_err().reason, Reason::PayloadOut);
+    assert_eq!(nothing.start().unwrap_err().reason, Reason::PayloadOut);
     assert_eq!((next_start_code(&[], 0), next_start_code(&[0, 0, 1], 9)), (Ok(0), Ok(3)));
 }

@@ -171,7 +171,7 @@ fn header_fields(header: &SequenceHeader) -> [(&'static str, u64); 13] {
 }
 
 fn header_text(output: &mut dyn Write, unit: usize, header: &SequenceHeader) -> Written {
-    let mut table = Table::begin(output, unit, "sequence header", &SEQUENCE_HEADER)?;
+    let mut table = Table::begin(output, unit, "sequence header", SEQUENCE_HEADER)?;
     table.fields(&header_fields(header))?;
     let (high, low) = (header.bit_rate / BIT_RATE_LOW, header.bit_rate % BIT_RATE_LOW);
     let parts = format!("{} x {} + {}", high, BIT_RATE_LOW, low);
@@ -196,9 +196,9 @@ fn header_text(output: &mut dyn Write, unit: usize, header: &SequenceHeader) -> 
 }
 
 fn display_text(output: &mut dyn Write, unit: usize, display: &DisplayExtension) -> Written {
-    let layout: &[Field] = match display.colour {
-        Some(_) => &DISPLAY_WITH_COLOUR,
-        None => &DISPLAY,
+    let layout = match display.colour {
+        Some(_) => DISPLAY_WITH_COLOUR,
+        None => DISPLAY,
     };
     let mut table = Table::begin(output, unit, "display extension", layout)?;
     table.field("format", display.format)?;
@@ -232,7 +232,7 @@ fn copyright_fields(copyright: &CopyrightExtension) -> [(&'static str, u64); 6] 
 }
 
 fn copyright_text(output: &mut dyn Write, unit: usize, copyright: &CopyrightExtension) -> Written {
-    let mut table = Table::begin(output, unit, "copyright extension", &COPYRIGHT)?;
+    let mut table = Table::begin(output, unit, "copyright extension", COPYRIGHT)?;
     let fields = copyright_fields(copyright);
     table.fields(&fields)?;
     let [.., (_, one), (_, two), (_, three)] = fields;

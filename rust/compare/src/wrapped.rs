@@ -1,6 +1,9 @@
 //! The safe crate, its answers put back as the C interface has them.
 
-use avsplus::{DisplayExtension, Extension, Group, Kind, Payload, Ratio, Recording, Refused, Scope, SequenceHeader, Unit};
+use avsplus::{
+    DisplayExtension, DisplayRatio, Extension, Group, Kind, Payload, Ratio, Recording, Refused, Scope, SequenceHeader, Totals,
+    Unit,
+};
 use avsplus_sys::{
     Answer, Bin, Context, Golomb, PairBin, Part, PlainBin, SignedNumber, Started, State, AVSPLUS_DONE, AVSPLUS_NO_KIND,
 };
@@ -10,7 +13,7 @@ use crate::decoder::{self, done, hand_over, refused, Decoder};
 /// The functions that lend memory on, one for each of the library's.
 pub const WRAPPED: Decoder = Decoder {
     name: "safe crate",
-    check: |stream| avsplus::check(stream).map_or_else(stream_refused, done),
+    check: |stream| totals(avsplus::check(stream)),
     file,
     row_exists: |stream, rows, i| avsplus::row_exists(stream, rows, i) == Ok(true),
     row_body,
@@ -18,7 +21,7 @@ pub const WRAPPED: Decoder = Decoder {
     sequence_header,
     extension,
     frame_rate: |code, lent| ratio(avsplus::frame_rate(code), lent),
-    display_ratio: |aspect, lent| ratio(avsplus::display_ratio(aspect), lent),
+    display_ratio: |aspect, lent| ratio(avsplus::display_ratio(aspect).map(shown_ratio), lent),
     remove_escapes,
     unsigned_golomb,
     signed_golomb,
@@ -37,7 +40,7 @@ pub const WRAPPED: Decoder = Decoder {
 /// among all groups.
 pub const RECORDING: Decoder = Decoder {
     name: "safe crate's recording",
-    check: |stream| avsplus::file(stream).map_or_else(stream_refused, |recording| done(recording.units().len())),
+    check: |stream| totals(avsplus::file(stream).map(|recording| recording.totals())),
     file: recording_rows,
     group: |stream, g, lent| match lent.len() % 2 {
         0 => group(recording_groups(stream, g), lent),
@@ -51,6 +54,11 @@ fn status(refusal: Refused) -> u32 {
     refusal.reason.number().unwrap_or(u32::MAX)
 }
 
+/// The units of a filed stream, or its refusal.
+fn totals(filed: Result<Totals, Refused>) -> Answer {
+    filed.map_or_else(stream_refused, |totals| done(totals.units))
+}
+
 /// A refusal with its offset, or without one.
 fn stream_refused(refusal: Refused) -> Answer {
     refused(status(refusal), refusal.offset.unwrap_or(0))
@@ -62,7 +70,7 @@ fn body_refused(refusal: Refused) -> Answer {
 }
 
 fn file(stream: &[u8], rows: &mut [u32]) -> Answer {
-    avsplus::file_into(stream, rows).map_or_else(stream_refused, done)
+    totals(avsplus::file_into(stream, rows))
 }
 
 /// Where a part lies in the stream by its address, so that a copy is found out.
@@ -216,6 +224,14 @@ fn extension_numbers(extension: &Extension) -> Vec<u64> {
         Extension::Display(ref display) => [vec![2], display_numbers(display)].concat(),
         Extension::Copyright(c) => vec![4, c.flag.into(), c.owner.into(), c.original.into(), c.number],
         Extension::Opaque(number) => vec![number.into()],
+    }
+}
+
+/// The ratio that an aspect gives: square samples are none.
+fn shown_ratio(says: Option<DisplayRatio>) -> Option<Ratio> {
+    match says {
+        Some(DisplayRatio::Ratio(ratio)) => Some(ratio),
+        Some(DisplayRatio::SquareSamples) | None => None,
     }
 }
 
