@@ -1,6 +1,7 @@
 //! The arguments of a command: operands, flags, and options with a value.
 
 use std::ffi::{OsStr, OsString};
+use std::os::unix::ffi::OsStrExt;
 
 use crate::failure::Failure;
 
@@ -22,15 +23,21 @@ pub struct Args {
     options: Vec<(String, OsString)>,
 }
 
-/// Whether help is asked for, whatever else is given.
-pub fn asks_for_help(given: &[OsString]) -> bool {
-    given
-        .iter()
-        .take_while(|&argument| argument != "--")
-        .any(|argument| argument == "--help" || argument == "-h")
-}
-
 impl Shape {
+    /// Whether help is asked for, whatever else is given; an option's value asks for none.
+    pub fn asks_for_help(&self, given: &[OsString]) -> bool {
+        let mut rest = given.iter().take_while(|&argument| argument != "--");
+        while let Some(argument) = rest.next() {
+            if argument == "--help" || argument == "-h" {
+                return true;
+            }
+            if self.options.iter().any(|option| argument == option) {
+                rest.next();
+            }
+        }
+        false
+    }
+
     /// Sorts arguments into operands, flags and options.
     pub fn parse(&self, given: &[OsString]) -> Result<Args, Failure> {
         let mut args = Args::default();
@@ -50,11 +57,8 @@ impl Shape {
 
     /// Takes a flag, or an option and its value, which may stand after `=` or as the next argument.
     fn take<'a>(&self, argument: &OsStr, mut rest: impl Iterator<Item = &'a OsString>, args: &mut Args) -> Result<(), Failure> {
-        let text = argument.to_str().ok_or_else(|| unknown(argument))?;
-        let (name, value) = match text.split_once('=') {
-            Some((name, value)) => (name, Some(OsString::from(value))),
-            None => (text, None),
-        };
+        let (name, value) = split(argument);
+        let name = name.to_str().ok_or_else(|| unknown(argument))?;
         if value.is_none() && (name == "--json" || self.flags.contains(&name)) {
             args.flags.push(name.to_string());
             return Ok(());
@@ -82,6 +86,18 @@ impl Shape {
             ))),
             None => Ok(()),
         }
+    }
+}
+
+/// Name and value of an argument `NAME=VALUE`, whose value may be any bytes.
+fn split(argument: &OsStr) -> (&OsStr, Option<OsString>) {
+    let bytes = argument.as_bytes();
+    match bytes.iter().position(|&byte| byte == b'=') {
+        Some(at) => {
+            let value = OsStr::from_bytes(&bytes[at + 1..]);
+            (OsStr::from_bytes(&bytes[..at]), Some(value.to_os_string()))
+        }
+        None => (argument, None),
     }
 }
 
@@ -125,6 +141,15 @@ impl Args {
         Some(value)
     }
 
+    /// An option's value as a number; none for a word that stands for all.
+    pub fn number_or(&self, name: &str, all: &str) -> Result<Option<usize>, Failure> {
+        match self.option(name) {
+            Some(value) if value == all => Ok(None),
+            Some(value) => number_of(name, value, &format!("a whole number or {}", all)).map(Some),
+            None => Ok(None),
+        }
+    }
+
     /// An option's value as a number, where it is given.
     pub fn number_option(&self, name: &str) -> Result<Option<usize>, Failure> {
         self.option(name).map(|value| number(name, value)).transpose()
@@ -132,8 +157,18 @@ impl Args {
 }
 
 fn number(name: &str, value: &OsStr) -> Result<usize, Failure> {
-    let parsed = value.to_str().and_then(|text| text.parse().ok());
-    parsed.ok_or_else(|| Failure::usage(format!("{} takes a whole number, not {:?}", name, value.to_string_lossy())))
+    number_of(name, value, "a whole number")
+}
+
+/// A value as a number; `wanted` says what it may be.
+fn number_of(name: &str, value: &OsStr, wanted: &str) -> Result<usize, Failure> {
+    let text = value.to_string_lossy();
+    let digits = !text.is_empty() && text.bytes().all(|byte| byte.is_ascii_digit());
+    match text.parse() {
+        Ok(number) if digits => Ok(number),
+        _ if digits => Err(Failure::usage(format!("{} is too great: {}", name, text))),
+        _ => Err(Failure::usage(format!("{} takes {}, not {:?}", name, wanted, text))),
+    }
 }
 
 #[cfg(test)]
@@ -183,10 +218,19 @@ mod tests {
 
     #[test]
     fn numbers_are_whole_and_not_negative() {
-        for value in ["", "-1", "1.5", "x", "99999999999999999999999"] {
+        for value in ["", "-1", "+1", "1.5", "x", "99999999999999999999999"] {
             assert!(number("N", OsStr::new(value)).is_err(), "{:?}", value);
         }
+        let too_great = number("N", OsStr::new("99999999999999999999999")).unwrap_err();
+        assert!(too_great.in_words().starts_with("N is too great: 999"));
         assert_eq!(number("N", OsStr::new("65536")).unwrap(), 65536);
+    }
+
+    #[test]
+    fn a_value_asks_for_no_help() {
+        let asks = |given: &[&str]| SHAPE.asks_for_help(&given.iter().map(OsString::from).collect::<Vec<_>>());
+        assert!(asks(&["a", "-h"]) && asks(&["--bits", "3", "--help"]));
+        assert!(!asks(&["--bits", "-h"]) && !asks(&["--", "--help"]) && !asks(&["a", "--bits=-h"]));
     }
 
     #[test]

@@ -48,21 +48,38 @@ impl Model {
 struct Bins<'p> {
     payload: &'p Payload<'static>,
     model: Model,
-    state: State,
+    /// None where the payload is too short to start.
+    state: Option<State>,
     wanted: usize,
+    found: usize,
     refused: Option<Refused>,
+}
+
+impl<'p> Bins<'p> {
+    fn start(payload: &'p Payload<'static>, model: Model, wanted: usize) -> Bins<'p> {
+        let started = payload.start();
+        Bins {
+            payload,
+            model,
+            state: started.ok(),
+            wanted,
+            found: 0,
+            refused: started.err(),
+        }
+    }
 }
 
 impl Iterator for Bins<'_> {
     type Item = u32;
 
     fn next(&mut self) -> Option<u32> {
-        if self.wanted == 0 || self.refused.is_some() {
-            return None;
-        }
-        match self.model.bin(self.payload, &mut self.state) {
+        let state = match &mut self.state {
+            Some(state) if self.found < self.wanted && self.refused.is_none() => state,
+            _ => return None,
+        };
+        match self.model.bin(self.payload, state) {
             Ok(bin) => {
-                self.wanted -= 1;
+                self.found += 1;
                 Some(u32::from(bin))
             }
             Err(refused) => {
@@ -73,85 +90,84 @@ impl Iterator for Bins<'_> {
     }
 }
 
-/// State and context after the bins, and the refusal that ended them.
-struct Ended {
-    state: State,
-    context: Option<Context>,
-    refusal: Option<Refusal>,
-}
-
-/// `bins FILE --count K`: bins of the arithmetic decoder. They are decoded twice, first for the answer and then to be written, so that
-/// none is kept.
+/// `bins FILE --count K`: bins of the arithmetic decoder, none of which is kept: as JSON they are decoded first for the answer, which
+/// stands before them, and then to be written.
 pub fn bins(args: &Args, output: &mut dyn Write) -> Result<Status, Failure> {
     let model = Model::asked_for(args)?;
     let wanted = args
         .number_option("--count")?
         .ok_or_else(|| Failure::usage("--count is missing"))?;
     let given = Given::read(args)?;
-    let bins = match given.payload.start() {
-        Ok(state) => Bins {
-            payload: &given.payload,
-            model,
-            state,
-            wanted,
-            refused: None,
-        },
-        Err(refused) => return Err(Failure::Refused(refusal_for(&given, refused)?)),
-    };
-    let ended = ended(&given, bins.clone())?;
-    match args.json() {
-        true => bins_json(output, &given, bins, &ended)?,
-        false => bins_text(output, &given, bins, &ended)?,
+    let mut bins = Bins::start(&given.payload, model, wanted);
+    if args.json() {
+        let first = bins.clone();
+        bins.by_ref().for_each(drop);
+        let refusal = refusal_at_end(&given, &bins)?;
+        let written = bins_json(output, &given, first, &bins, refusal.as_ref());
+        return concluded(written, refusal, true);
     }
-    concluded(ended.refusal, args.json())
-}
-
-fn ended(given: &Given, mut bins: Bins) -> Result<Ended, Failure> {
+    let written = bins_text(output, &given, &mut bins);
+    // Those that no reader waits for belong to the answer too.
     bins.by_ref().for_each(drop);
-    Ok(Ended {
-        state: bins.state,
-        context: bins.model.context(),
-        refusal: bins.refused.map(|refused| refusal_for(given, refused)).transpose()?,
-    })
+    concluded(written, refusal_at_end(&given, &bins)?, false)
 }
 
-/// A refusal, with what was not read where a bit was wanted.
-fn refusal_for(given: &Given, refused: Refused) -> Result<Refusal, Failure> {
-    let refusal = refusal_of(refused)?;
+/// What ended the bins: of PAYLOAD OUT after how many, and which bits were not read.
+fn refusal_at_end(given: &Given, bins: &Bins) -> Result<Option<Refusal>, Failure> {
+    let refusal = match bins.refused {
+        Some(refused) => refusal_of(refused)?,
+        None => return Ok(None),
+    };
     if refusal.reason != Reason::PayloadOut {
-        return Ok(refusal);
+        return Ok(Some(refusal));
     }
-    let meaning = format!("{}{}", refusal.meaning, given.about_unsure());
-    Ok(refusal.meaning(meaning))
+    let begun = match bins.state {
+        Some(_) => format!("{} of {} bins were decoded", bins.found, bins.wanted),
+        None => "the decoder could not start".to_string(),
+    };
+    let unsure = match given.unsure {
+        0 => String::new(),
+        _ => format!("; {}", given.about_unsure()),
+    };
+    let meaning = format!("{}, then a bit is wanted and none is left{}", begun, unsure);
+    Ok(Some(refusal.meaning(meaning)))
 }
 
-fn bins_text(output: &mut dyn Write, given: &Given, bins: Bins, ended: &Ended) -> Written {
+fn bins_text(output: &mut dyn Write, given: &Given, bins: &mut Bins) -> Written {
     given.text(output)?;
-    write!(output, "bins: ")?;
-    for bin in bins {
-        write!(output, "{}", bin)?;
+    if bins.state.is_none() {
+        return Ok(());
     }
-    let State { rs, rt, vs, vt, place } = ended.state;
-    writeln!(
-        output,
-        "\nstate: rS {}, rT {}, valueS {}, valueT {}, place {}",
-        rs, rt, vs, vt, place
-    )?;
-    if let Some(Context { mps, lg, cycno }) = ended.context {
+    write!(output, "bins: ")?;
+    for bin in bins.by_ref() {
+        output.write_all(if bin == 0 { b"0" } else { b"1" })?;
+    }
+    writeln!(output)?;
+    if let Some(State { rs, rt, vs, vt, place }) = bins.state {
+        writeln!(
+            output,
+            "state: rS {}, rT {}, valueS {}, valueT {}, place {}",
+            rs, rt, vs, vt, place
+        )?;
+    }
+    if let Some(Context { mps, lg, cycno }) = bins.model.context() {
         writeln!(output, "context: mps {}, lg {}, cycno {}", mps, lg, cycno)?;
     }
     Ok(())
 }
 
-fn bins_json(output: &mut dyn Write, given: &Given, bins: Bins, ended: &Ended) -> Written {
+fn bins_json(output: &mut dyn Write, given: &Given, bins: Bins, ended: &Bins, refusal: Option<&Refusal>) -> Written {
     json::line(output, |object| {
-        object.answer(DONE, ended.refusal.as_ref())?;
+        object.answer(DONE, refusal)?;
         given.json(object)?;
         object.values("bins", bins)?;
-        object.object("state", |o| state_json(o, &ended.state))?;
-        match ended.context {
-            Some(context) => object.object("context", |o| context_json(o, &context)),
-            None => object.put("context", None::<u32>),
+        match &ended.state {
+            Some(state) => object.object("state", |o| state_json(o, state))?,
+            None => object.put("state", None::<u32>)?,
+        }
+        match ended.model.context() {
+            Some(context) if ended.state.is_some() => object.object("context", |o| context_json(o, &context)),
+            _ => object.put("context", None::<u32>),
         }
     })
 }

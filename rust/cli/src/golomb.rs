@@ -16,6 +16,7 @@ struct Numbers<'p> {
     signed: bool,
     /// How many are wanted yet, where that was said.
     wanted: Option<usize>,
+    found: usize,
     /// The place of the next one.
     place: usize,
     refused: Option<Refused>,
@@ -25,7 +26,7 @@ impl Iterator for Numbers<'_> {
     type Item = (usize, i64);
 
     fn next(&mut self) -> Option<(usize, i64)> {
-        if self.wanted == Some(0) || self.refused.is_some() {
+        if self.wanted == Some(self.found) || self.refused.is_some() {
             return None;
         }
         let read = match self.signed {
@@ -38,7 +39,7 @@ impl Iterator for Numbers<'_> {
         match read {
             Ok((number, after)) => {
                 let place = std::mem::replace(&mut self.place, after);
-                self.wanted = self.wanted.map(|wanted| wanted - 1);
+                self.found += 1;
                 Some((place, number))
             }
             Err(refused) => {
@@ -49,91 +50,94 @@ impl Iterator for Numbers<'_> {
     }
 }
 
-/// What reading came to: how many numbers there are, the place after them, and the refusal that ended it.
-struct Ended {
-    count: usize,
-    place: usize,
-    refusal: Option<Refusal>,
-}
-
-/// `golomb FILE`: numbers one after another. They are read twice, first for the answer and then to be written, so that none is
-/// kept.
+/// `golomb FILE`: numbers one after another, none of which is kept: as JSON they are read first for the answer, which stands before
+/// them, and then to be written.
 pub fn golomb(args: &Args, output: &mut dyn Write) -> Result<Status, Failure> {
     let wanted = args.number_option("--count")?;
     let place = args.number_option("--place")?.unwrap_or(0);
     let given = Given::read(args)?;
-    let numbers = Numbers {
+    if place > given.bits() {
+        return Err(Failure::Refused(past_the_end(&given, place)?));
+    }
+    let mut numbers = Numbers {
         payload: &given.payload,
         signed: args.flag("--signed"),
         wanted,
+        found: 0,
         place,
         refused: None,
     };
-    let ended = ended(&given, numbers.clone())?;
-    match args.json() {
-        true => numbers_json(output, &given, numbers, &ended)?,
-        false => numbers_text(output, &given, numbers, &ended)?,
+    if args.json() {
+        let first = numbers.clone();
+        numbers.by_ref().for_each(drop);
+        let refusal = refusal_at_end(&given, &numbers)?;
+        let written = numbers_json(output, &given, first, numbers.place, refusal.as_ref());
+        return concluded(written, refusal, true);
     }
-    concluded(ended.refusal, args.json())
+    let written = numbers_text(output, &given, &mut numbers);
+    // Those that no reader waits for belong to the answer too.
+    numbers.by_ref().for_each(drop);
+    concluded(written, refusal_at_end(&given, &numbers)?, false)
 }
 
-/// Reads all numbers. Where no count was asked for, a payload that ends with a number is read to its end; one that does not leaves
-/// bits that are no number.
-fn ended(given: &Given, mut numbers: Numbers) -> Result<Ended, Failure> {
-    let count = numbers.by_ref().count();
-    let place = numbers.place;
-    let refusal = match numbers.refused {
-        None => None,
-        Some(refused) if refused.reason == Reason::PayloadOut => {
-            let all_read = numbers.wanted.is_none() && count > 0 && given.left(place) == 0;
-            if all_read {
-                None
-            } else {
-                Some(refusal_of(refused)?.meaning(cut(given, place)).at_bit(place))
-            }
-        }
-        Some(refused) => Some(refusal_of(refused)?.at_bit(place)),
+fn past_the_end(given: &Given, place: usize) -> Result<Refusal, Failure> {
+    let meaning = format!("bit {} is past the payload's end: it has {}", place, bits(given.bits()));
+    Ok(refusal_of(Reason::PayloadOut.into())?.meaning(meaning))
+}
+
+/// What ended the numbers. Where no count was asked for, a payload that ends with a number is read to its end; one that does not
+/// leaves bits that are no number.
+fn refusal_at_end(given: &Given, numbers: &Numbers) -> Result<Option<Refusal>, Failure> {
+    let refused = match numbers.refused {
+        Some(refused) => refused,
+        None => return Ok(None),
     };
-    Ok(Ended { count, place, refusal })
+    let refusal = refusal_of(refused)?.at_bit(numbers.place);
+    if refusal.reason != Reason::PayloadOut {
+        return Ok(Some(refusal));
+    }
+    let all_read = numbers.wanted.is_none() && numbers.found > 0 && numbers.place == given.bits();
+    Ok(match all_read {
+        true => None,
+        false => Some(refusal.meaning(cut(given, numbers.place))),
+    })
 }
 
 /// What is left where a number is cut.
 fn cut(given: &Given, place: usize) -> String {
-    match given.left(place) {
-        0 => format!("a bit is wanted, and the payload has {}", bits(given.payload.bits())),
-        left => format!(
-            "{} left from bit {} on, no whole number{}",
-            if left == 1 {
-                "1 bit is".to_string()
-            } else {
-                format!("{} are", bits(left))
-            },
-            place,
-            given.about_unsure()
-        ),
+    let left = match given.bits() - place {
+        0 => return format!("a bit is wanted, and the payload has {}", bits(given.bits())),
+        1 => "1 bit is".to_string(),
+        left => format!("{} are", bits(left)),
+    };
+    let with_all = Payload::whole(given.payload.bytes()).unsigned_golomb(place);
+    match given.unsure > 0 && with_all.is_ok() {
+        true => format!("{} left from bit {} on; {}", left, place, given.about_unsure()),
+        false => format!("{} left from bit {} on, no whole number", left, place),
     }
 }
 
-fn numbers_text(output: &mut dyn Write, given: &Given, numbers: Numbers, ended: &Ended) -> Written {
+fn numbers_text(output: &mut dyn Write, given: &Given, numbers: &mut Numbers) -> Written {
     given.text(output)?;
-    if ended.count > 0 {
-        writeln!(output, "{:>8}  {:>11}", "place", "number")?;
-    }
-    for (place, number) in numbers {
+    let mut head = Some("   place       number");
+    for (place, number) in numbers.by_ref() {
+        if let Some(head) = head.take() {
+            writeln!(output, "{}", head)?;
+        }
         writeln!(output, "{:>8}  {:>11}", place, number)?;
     }
-    Ok(writeln!(output, "next place: {}", ended.place)?)
+    Ok(writeln!(output, "next place: {}", numbers.place)?)
 }
 
-fn numbers_json(output: &mut dyn Write, given: &Given, numbers: Numbers, ended: &Ended) -> Written {
+fn numbers_json(output: &mut dyn Write, given: &Given, numbers: Numbers, next: usize, refusal: Option<&Refusal>) -> Written {
     json::line(output, |object| {
-        object.answer(DONE, ended.refusal.as_ref())?;
+        object.answer(DONE, refusal)?;
         given.json(object)?;
         object.objects("numbers", numbers, |o, (place, number)| {
             o.put("place", place)?;
             o.put("number", number)
         })?;
-        object.put("next_place", ended.place)?;
-        object.put("bits_left", given.left(ended.place))
+        object.put("next_place", next)?;
+        object.put("bits_left", given.bits() - next)
     })
 }

@@ -4,12 +4,13 @@
 macro_rules! payload_options {
     () => {
         "\
-\x20 --unit N      FILE is a recording, and the payload is the body of its unit N, whose
-                escape bits are removed
-  --escaped     escape bits are removed first
-  --bits N      FILE has no escape bits, and its first N bits are the payload; all for
-                all bits of it. Without any of these three nobody says where the payload
-                ends: zeros at the end of the last byte may be filling, and are not read
+\x20 --unit N      FILE is a recording, and the payload is the body of its unit N, a
+                picture or a slice, whose escape bits are removed
+  --escaped     FILE is such a body: escape bits are removed
+  --bits N      FILE has no escape bits, and its first N bits are the payload; N may be
+                all. Without any of these three FILE is taken to have no escape bits,
+                and nobody says where the payload ends: zeros at the end of the last
+                byte may be filling, and are not read
 "
     };
 }
@@ -24,7 +25,7 @@ Usage: avsplus [--json] COMMAND ARGUMENTS
 Recordings:
   file REC               the sheet: answer, units, and each group's fields
   units REC              the units alone
-  header REC             the sequence header and the extensions of one group
+  header REC             sequence header, display and copyright extensions of a group
   body REC N             the body of unit N
 
 Payloads:
@@ -65,7 +66,8 @@ Usage: avsplus file REC [--json]
             copyright number, which may be over 2^53, is a string
   --help    this text
 
-Exit status: 0 filed, 1 refused, 2 wrong arguments, or a file that cannot be read.
+Exit status: 0 filed, 1 refused, 2 wrong arguments, or a file or output that cannot be
+read or written.
 ";
 
 /// Help on `units`.
@@ -81,7 +83,8 @@ Usage: avsplus units REC [--json]
   --json    one JSON object instead of text
   --help    this text
 
-Exit status: 0 filed, 1 refused, 2 wrong arguments, or a file that cannot be read.
+Exit status: 0 filed, 1 refused, 2 wrong arguments, or a file or output that cannot be
+read or written.
 ";
 
 /// Help on `header`.
@@ -96,13 +99,14 @@ Usage: avsplus header REC [--group G] [--json]
   --json       one JSON object instead of text
   --help       this text
 
-Exit status: 0 done, 1 refused or no such group, 2 wrong arguments, or a file that
-cannot be read.
+Exit status: 0 done, 1 refused or no such group, 2 wrong arguments, or a file or output
+that cannot be read or written.
 ";
 
 /// Help on `body`.
 pub const BODY: &str = "\
-Files a recording and writes the body of one unit to standard output, as it is.
+Files a recording and writes the body of one unit to standard output, as it is: escape
+bits are not removed.
 
 Usage: avsplus body REC N [--hex] [--json]
 
@@ -112,8 +116,8 @@ Usage: avsplus body REC N [--hex] [--json]
   --json    one JSON object with the unit and its bytes in hexadecimal
   --help    this text
 
-Exit status: 0 done, 1 refused or no such unit, 2 wrong arguments, or a file that cannot
-be read.
+Exit status: 0 done, 1 refused or no such unit, 2 wrong arguments, or a file or output
+that cannot be read or written.
 ";
 
 /// Help on `unescape`.
@@ -126,14 +130,15 @@ bits in one step see --unit and --escaped of golomb and bins.
 Usage: avsplus unescape FILE [--unit N] [--output OUT] [--json]
 
   FILE            the payload, or - for standard input
-  --unit N        FILE is a recording, and the payload is the body of its unit N
-  --output OUT    the bytes go to this file; with - to standard output, and then the
-                  count goes to standard error
+  --unit N        FILE is a recording, and the payload is the body of its unit N, a
+                  picture or a slice
+  --output OUT    the bytes go to this file, in the place of what is there; with - to
+                  standard output, and then the count goes to standard error
   --json          one JSON object instead of text
   --help          this text
 
-Exit status: 0 done, 1 refused, 2 wrong arguments, or a file that cannot be read or
-written.
+Exit status: 0 done, 1 refused, 2 wrong arguments, or a file or output that cannot be
+read or written.
 ";
 
 /// Help on `golomb`.
@@ -156,7 +161,7 @@ Usage: avsplus golomb FILE [--unit N | --escaped | --bits N] [--signed] [--place
   --help        this text
 
 Exit status: 0 when the payload ends with a number or K numbers are read, 1 refused, 2
-wrong arguments, or a file that cannot be read.
+wrong arguments, or a file or output that cannot be read or written.
 "
 );
 
@@ -178,7 +183,8 @@ Usage: avsplus bins FILE [--unit N | --escaped | --bits N] --count K
   --json        one JSON object instead of text
   --help        this text
 
-Exit status: 0 done, 1 refused, 2 wrong arguments, or a file that cannot be read.
+Exit status: 0 done, 1 refused, 2 wrong arguments, or a file or output that cannot be
+read or written.
 "
 );
 

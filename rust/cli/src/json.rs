@@ -4,8 +4,7 @@ use std::io::{self, Write};
 
 use crate::failure::{Failure, Refusal, Site, Written};
 
-/// A value that is no object and no list. A number over 2^53, which readers would round, is written as a text by whoever writes
-/// it.
+/// A value that is no object and no list.
 #[derive(Debug, Clone)]
 pub enum Value {
     /// Not given.
@@ -51,10 +50,10 @@ impl Object<'_> {
         Ok(write_value(self.output, &value.into())?)
     }
 
-    /// Fields of a layout: each has at most 22 bits.
+    /// Fields of a layout.
     pub fn fields(&mut self, fields: &[(&str, u64)]) -> Written {
         for &(name, value) in fields {
-            self.put(&name.replace(' ', "_"), value as i64)?;
+            self.put(&name.replace(' ', "_"), value)?;
         }
         Ok(())
     }
@@ -185,8 +184,17 @@ impl From<i64> for Value {
 
 impl From<usize> for Value {
     fn from(number: usize) -> Value {
-        // Lengths and places stay far below 2^53.
-        Value::Number(number as i64)
+        Value::from(number as u64)
+    }
+}
+
+impl From<u64> for Value {
+    /// A number over 2^53, which readers would round, as a text.
+    fn from(number: u64) -> Value {
+        match number <= 1 << 53 {
+            true => Value::Number(number as i64),
+            false => Value::Text(number.to_string()),
+        }
     }
 }
 
@@ -228,12 +236,13 @@ mod tests {
     fn lists_and_objects_keep_their_order() {
         let text = written(|o| {
             o.values("b", [-1_i64, 2].into_iter())?;
+            o.values("wide", [1_u64 << 53, (1 << 53) + 1].into_iter())?;
             o.values("none", std::iter::empty::<u32>())?;
             o.objects("a", [true, false].into_iter(), |o, truth| o.put("x", truth))?;
             o.object("c", |o| o.put("null", None::<u32>))?;
             o.hex("hex", &[0, 0xAB])
         });
-        let expected = "{\"b\":[-1,2],\"none\":[],\"a\":[{\"x\":true},{\"x\":false}],\"c\":{\"null\":null},\"hex\":\"00ab\"}\n";
+        let expected = "{\"b\":[-1,2],\"wide\":[9007199254740992,\"9007199254740993\"],\"none\":[],\"a\":[{\"x\":true},{\"x\":false}],\"c\":{\"null\":null},\"hex\":\"00ab\"}\n";
         assert_eq!(text, expected);
     }
 }

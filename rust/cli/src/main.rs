@@ -163,7 +163,7 @@ fn run(given: &[OsString], output: &mut dyn Write) -> (bool, Result<Status, Fail
         Ok(command) => command,
         Err(failure) => return (false, Err(failure)),
     };
-    if args::asks_for_help(rest) {
+    if command.shape.asks_for_help(rest) {
         return (false, help_on(command, output));
     }
     match command.shape.parse(&[&given[..before], rest].concat()) {
@@ -201,15 +201,18 @@ fn done(written: io::Result<()>) -> Result<Status, Failure> {
 
 /// `help [COMMAND | refusals | --man]`
 fn help(topics: &[OsString], output: &mut dyn Write) -> Result<Status, Failure> {
-    match topics {
-        [] => done(output.write_all(help::OVERVIEW.as_bytes())),
-        [topic] if topic == "refusals" => done(write_refusals(output)),
-        [topic] if topic == "--man" => done(manual::write(output)),
-        [topic] => help_on(find(topic)?, output),
-        [_, extra, ..] => Err(Failure::usage(format!(
-            "{:?} is one argument too many",
-            extra.to_string_lossy()
-        ))),
+    // Help is text, whatever else is asked for.
+    let mut topics = topics.iter().filter(|&topic| topic != "--json");
+    let (topic, extra) = (topics.next(), topics.next());
+    if let Some(extra) = extra {
+        let message = format!("{:?} is one argument too many", extra.to_string_lossy());
+        return Err(Failure::usage(message));
+    }
+    match topic.map(|topic| topic.to_string_lossy()).as_deref() {
+        None | Some("help" | "--help" | "-h") => done(output.write_all(help::OVERVIEW.as_bytes())),
+        Some("refusals") => done(write_refusals(output)),
+        Some("--man") => done(manual::write(output)),
+        Some(name) => help_on(find(OsStr::new(name))?, output),
     }
 }
 

@@ -14,6 +14,7 @@ pub fn write(output: &mut dyn Write) -> io::Result<()> {
     );
     output.write_all(title.as_bytes())?;
     writeln!(output, ".SH NAME\navsplus \\- files AVS+ (GY/T 257.1) recordings")?;
+    writeln!(output, ".SH SYNOPSIS\n.B avsplus\n[\\-\\-json] COMMAND ARGUMENTS")?;
     writeln!(output, ".SH DESCRIPTION")?;
     text(output, help::OVERVIEW)?;
     for Command { name, help, .. } in COMMANDS {

@@ -1,29 +1,31 @@
 //! The commands on payloads. The bit count travels with the bytes: what fills a last byte is never read as data.
 
+use std::ffi::OsStr;
 use std::io::{self, Write};
 
-use avsplus::{Payload, Reason, Refused};
+use avsplus::{Kind, Payload, Reason, Refused};
 
 use crate::args::Args;
 use crate::failure::{Failure, Refusal, Status, Written};
-use crate::files::{read_payload, read_stream, write};
+use crate::files::{are_one, read_payload, read_stream, write};
 use crate::json::{self, write_hex, Object};
 use crate::recordings::{file_stream, unit};
-use crate::standard::complain;
+use crate::standard::{note, output_is_open};
 
 /// The answer to a payload that was read.
 pub const DONE: &str = "done";
 
 /// A payload as a command is given it.
 pub struct Given {
+    /// The bits that are read.
     pub payload: Payload<'static>,
-    /// Bits of the file that are not read, because nobody said whether they are the payload's: zeros at the end of the last byte.
+    /// Zeros after them at the end of the last byte, which are not read: nobody said whether they are the payload's or fill it up.
     pub unsure: usize,
 }
 
 impl Given {
     /// Reads what `--unit`, `--escaped` or `--bits` says the payload is. Without any of these its end is not known: zeros after the
-    /// last 1 of the last byte may be filling, so they are not read.
+    /// last 1 of the last byte may be filling.
     pub fn read(args: &Args) -> Result<Given, Failure> {
         let asked = ["--unit", "--escaped", "--bits"].map(|name| args.flag(name) || args.option(name).is_some());
         if asked.iter().filter(|&&asked| asked).count() > 1 {
@@ -36,7 +38,7 @@ impl Given {
             }),
             [_, _, true] => Given::of_bits(args),
             _ => {
-                let bytes = read_payload(args.operand(0))?;
+                let bytes = read_within_limit(args.operand(0))?;
                 let unsure = bytes.last().map_or(0, |last| last.trailing_zeros().min(7) as usize);
                 Ok(Given {
                     payload: Payload::first_bits(&bytes, 8 * bytes.len() - unsure).into_owned(),
@@ -46,52 +48,55 @@ impl Given {
         }
     }
 
-    /// So many bits as `--bits` says, or all.
+    /// So many bits as `--bits` says, which must be there, or all.
     fn of_bits(args: &Args) -> Result<Given, Failure> {
-        let bits = match args.option("--bits") {
-            Some(value) if value == "all" => usize::MAX,
-            _ => args.number_option("--bits")?.unwrap_or(usize::MAX),
+        let bits = args.number_or("--bits", "all")?;
+        let bytes = read_within_limit(args.operand(0))?;
+        let payload = match bits {
+            Some(bits) => Payload::first_bits(&bytes, bits).into_owned(),
+            None => Payload::whole(&bytes).into_owned(),
         };
-        let bytes = read_payload(args.operand(0))?;
-        Ok(Given {
-            payload: Payload::first_bits(&bytes, bits).into_owned(),
-            unsure: 0,
-        })
-    }
-
-    /// The bits that are left from a place on, with those that are not read.
-    pub fn left(&self, place: usize) -> usize {
-        (self.payload.bits() + self.unsure).saturating_sub(place)
-    }
-
-    /// What is to be said of bits that were not read.
-    pub fn about_unsure(&self) -> String {
-        match self.unsure {
-            0 => String::new(),
-            unsure => format!(
-                "; the last {} may be filling and were not read: --bits says how many bits the payload has",
-                bits(unsure)
-            ),
+        match bits {
+            Some(bits) if bits > payload.bits() => Err(Failure::Trouble(format!(
+                "cannot read {} bits: there are {}",
+                bits,
+                payload.bits()
+            ))),
+            _ => Ok(Given { payload, unsure: 0 }),
         }
+    }
+
+    /// How many bits there are, those that are not read among them.
+    pub fn bits(&self) -> usize {
+        self.payload.bits() + self.unsure
+    }
+
+    /// What is to be said of bits that are not read, where one of them is wanted.
+    pub fn about_unsure(&self) -> String {
+        format!(
+            "the last {}, zeros, may be filling and {} not read: --bits says how many bits the payload has",
+            bits(self.unsure),
+            if self.unsure == 1 { "is" } else { "are" }
+        )
     }
 
     /// The first line of text.
     pub fn text(&self, output: &mut dyn Write) -> io::Result<()> {
         match self.unsure {
-            0 => writeln!(output, "payload: {}", bits(self.payload.bits())),
-            unsure => writeln!(
+            0 => writeln!(output, "payload: {}", bits(self.bits())),
+            _ => writeln!(
                 output,
-                "payload: {}, and {} at the end that may be filling",
-                bits(self.payload.bits()),
-                bits(unsure)
+                "payload: {}, of which the last {} may be filling",
+                bits(self.bits()),
+                self.unsure
             ),
         }
     }
 
     /// The first members of a JSON object.
     pub fn json(&self, object: &mut Object) -> Written {
-        object.put("payload_bits", self.payload.bits())?;
-        object.put("bits_not_read", self.unsure)
+        object.put("payload_bits", self.bits())?;
+        object.put("may_be_filling", self.unsure)
     }
 }
 
@@ -100,41 +105,61 @@ pub fn bits(count: usize) -> String {
     format!("{} bit{}", count, if count == 1 { "" } else { "s" })
 }
 
+/// Reads a payload; one byte over the limit is TOO LONG, and how many more there are is not known.
+fn read_within_limit(name: &OsStr) -> Result<Vec<u8>, Failure> {
+    let bytes = read_payload(name)?;
+    match bytes.len() > avsplus::LONGEST_PAYLOAD {
+        true => Err(Failure::Refused(refusal_of(Reason::TooLong.into())?)),
+        false => Ok(bytes),
+    }
+}
+
 /// The payload of a recording's unit, or of a file as it is, its escape bits removed.
 fn unescaped(args: &Args) -> Result<Payload<'static>, Failure> {
     let name = args.operand(0);
     let removed = match args.number_option("--unit")? {
-        Some(n) => avsplus::remove_escapes(unit(&file_stream(&read_stream(name)?)?, n)?.body),
-        None => avsplus::remove_escapes(&read_payload(name)?),
+        Some(n) => avsplus::remove_escapes(body_of(&read_stream(name)?, n)?),
+        None => avsplus::remove_escapes(&read_within_limit(name)?),
     };
-    removed.map_err(|refused| match Failure::from(refused) {
-        Failure::Refused(refusal) => Failure::Refused(meaning_for(refusal)),
-        other => other,
-    })
-}
-
-/// What a refusal means for a payload.
-pub fn meaning_for(refusal: Refusal) -> Refusal {
-    match refusal.reason {
-        Reason::TooLong => {
-            let meaning = format!("{} of {} for a payload", refusal.meaning, avsplus::LONGEST_PAYLOAD);
-            refusal.meaning(meaning)
-        }
-        Reason::Value => refusal.meaning("32 zeros or more stand before a 1, and no number is so long".to_string()),
-        _ => refusal,
+    match removed {
+        Ok(payload) => Ok(payload),
+        Err(refused) => Err(Failure::Refused(refusal_of(refused)?)),
     }
 }
 
-/// A refusal of a payload, or a library that does not fit.
+/// The body of a picture or slice of a recording. All others are read as they stand, so no escape bits are removed from them.
+fn body_of(stream: &[u8], n: usize) -> Result<&[u8], Failure> {
+    let unit = unit(&file_stream(stream)?, n)?;
+    match unit.kind {
+        Kind::IPicture | Kind::PbPicture | Kind::Slice => Ok(unit.body),
+        other => Err(Failure::Trouble(format!(
+            "unit {} has no escape bits: it is of kind {}, and only pictures and slices have them",
+            n, other
+        ))),
+    }
+}
+
+/// A refusal of a payload with what it means for one, or a library that does not fit.
 pub fn refusal_of(refused: Refused) -> Result<Refusal, Failure> {
-    match Failure::from(refused) {
-        Failure::Refused(refusal) => Ok(meaning_for(refusal)),
-        other => Err(other),
-    }
+    let refusal = match Failure::from(refused) {
+        Failure::Refused(refusal) => refusal,
+        other => return Err(other),
+    };
+    let meaning = match refusal.reason {
+        Reason::TooLong => format!("{} of {} for a payload", refusal.meaning, avsplus::LONGEST_PAYLOAD),
+        Reason::Value => "32 zeros stand here, and no number begins with so many".to_string(),
+        _ => return Ok(refusal),
+    };
+    Ok(refusal.meaning(meaning))
 }
 
-/// What a command comes to after its output: a refusal is a complaint, where it does not stand in a JSON object already.
-pub fn concluded(refusal: Option<Refusal>, json: bool) -> Result<Status, Failure> {
+/// What a command comes to after its output: a refusal is a complaint, where it does not stand in a JSON object already. A reader who
+/// has seen enough of the output does not change the answer.
+pub fn concluded(written: Written, refusal: Option<Refusal>, json: bool) -> Result<Status, Failure> {
+    match written {
+        Err(failure) if !failure.is_closed_pipe() => return Err(failure),
+        _ => {}
+    }
     match refusal {
         None => Ok(Status::Done),
         Some(_) if json => Ok(Status::Refused),
@@ -145,25 +170,35 @@ pub fn concluded(refusal: Option<Refusal>, json: bool) -> Result<Status, Failure
 /// `unescape FILE [--unit N] [--output OUT]`: escape bits removed.
 pub fn unescape(args: &Args, output: &mut dyn Write) -> Result<Status, Failure> {
     let to = args.option("--output");
-    let to_standard = to.map_or(false, |name| name == "-");
-    if to_standard && args.json() {
-        return Err(Failure::usage("--json and --output - exclude each other"));
+    if to.map_or(false, |name| are_one(name, args.operand(0))) {
+        return Err(Failure::usage("--output is FILE itself"));
+    }
+    if to == Some(OsStr::new("-")) {
+        return unescape_to_standard(args, output);
     }
     let payload = unescaped(args)?;
-    match to {
-        Some(_) if to_standard => {
-            output.write_all(payload.bytes())?;
-            output.flush()?;
-            complain(&format!("{}: read them with --bits {}", bits(payload.bits()), payload.bits()));
-            return Ok(Status::Done);
-        }
-        Some(name) => write(name, payload.bytes())?,
-        None => {}
+    if let Some(name) = to {
+        // Without the bit count, which goes there, the file is of no use.
+        output_is_open()?;
+        write(name, payload.bytes())?;
     }
     match args.json() {
         true => unescape_json(output, &payload, to.is_none())?,
         false => unescape_text(output, &payload, to.is_none())?,
     }
+    Ok(Status::Done)
+}
+
+/// The bytes go to standard output, and the bit count to standard error.
+fn unescape_to_standard(args: &Args, output: &mut dyn Write) -> Result<Status, Failure> {
+    if args.json() {
+        return Err(Failure::usage("--json and --output - exclude each other"));
+    }
+    let payload = unescaped(args)?;
+    output.write_all(payload.bytes())?;
+    output.flush()?;
+    let count = format!("{}: read them with --bits {}", bits(payload.bits()), payload.bits());
+    note(&count).map_err(|error| Failure::Trouble(format!("cannot write the bit count: {}", error)))?;
     Ok(Status::Done)
 }
 

@@ -12,7 +12,7 @@ use crate::sheet::{group_json, group_text, unit_json, units_text};
 
 /// The answer to a good recording.
 const FILED: &str = "FILED";
-/// How many bytes of a refused recording are shown at most.
+/// How many bytes of a refused recording are shown at most, from where the refusal stands on.
 const SHOWN: usize = 16;
 
 /// Files a recording, whose refusal says what it means for this one.
@@ -44,7 +44,7 @@ pub fn file(args: &Args, output: &mut dyn Write) -> Result<Status, Failure> {
     let stream = read_stream(args.operand(0))?;
     let recording = match file_stream(&stream) {
         Ok(recording) => recording,
-        Err(Failure::Refused(refusal)) if !args.json() => return refused_sheet(output, &stream, &refusal),
+        Err(Failure::Refused(refusal)) => return refused_sheet(output, &stream, &refusal, args.json()),
         Err(other) => return Err(other),
     };
     match args.json() {
@@ -77,20 +77,40 @@ fn sheet_text(output: &mut dyn Write, recording: &Recording<'_>) -> Written {
     Ok(())
 }
 
-/// The sheet of a refused recording is a result too, so it goes to standard output.
-fn refused_sheet(output: &mut dyn Write, stream: &[u8], refusal: &Refusal) -> Result<Status, Failure> {
-    writeln!(output, "answer: {}\nreason: {}", refusal.answer(), refusal.meaning)?;
-    match stream.len() > avsplus::LONGEST_STREAM {
-        true => writeln!(output, "bytes: more than {}", avsplus::LONGEST_STREAM)?,
-        false => writeln!(output, "bytes: {}", stream.len())?,
-    }
-    let there = match refusal.site {
-        Some(Site::Byte(offset)) => stream.get(offset..).unwrap_or_default(),
+/// The bytes where a refusal stands. TOO LONG is about their number alone.
+fn bytes_there<'a>(stream: &'a [u8], refusal: &Refusal) -> &'a [u8] {
+    let there = match (refusal.reason, refusal.site) {
+        (Reason::TooLong, _) => &[],
+        (_, Some(Site::Byte(offset))) => stream.get(offset..).unwrap_or_default(),
         _ => &[],
     };
+    &there[..there.len().min(SHOWN)]
+}
+
+/// The sheet of a refused recording is a result too, so it goes to standard output. Of a recording that is TOO LONG not all bytes
+/// were read, so how many it has is not known.
+fn refused_sheet(output: &mut dyn Write, stream: &[u8], refusal: &Refusal, json: bool) -> Result<Status, Failure> {
+    let there = bytes_there(stream, refusal);
+    let length = if stream.len() > avsplus::LONGEST_STREAM {
+        None
+    } else {
+        Some(stream.len())
+    };
+    if json {
+        json::line(output, |object| {
+            object.refused(refusal)?;
+            object.put("bytes", length)?;
+            object.hex("there", there)
+        })?;
+        return Ok(Status::Refused);
+    }
+    writeln!(output, "answer: {}\nreason: {}", refusal.answer(), refusal.meaning)?;
+    match length {
+        Some(length) => writeln!(output, "bytes: {}", length)?,
+        None => writeln!(output, "bytes: more than {}", avsplus::LONGEST_STREAM)?,
+    }
     if !there.is_empty() {
-        let more = if there.len() > SHOWN { " .." } else { "" };
-        writeln!(output, "there: {}{}", spaced(&there[..there.len().min(SHOWN)]), more)?;
+        writeln!(output, "there: {}", spaced(there))?;
     }
     Ok(Status::Refused)
 }

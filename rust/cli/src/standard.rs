@@ -1,7 +1,8 @@
-//! Standard input, output and error, the first two of which the caller may have closed.
+//! Standard input, output and error, which the caller may have closed, or opened for the other way.
 //!
-//! Before `main` std opens /dev/null in the place of a standard stream that is closed: what is written there would be lost, and
-//! what is read there would be an empty file, both without an error. So this is asked earlier.
+//! Before `main` std opens /dev/null in the place of a standard stream that is closed, and it takes a stream that is open for the
+//! other way for an empty or a willing one: what is written would be lost, and what is read would be an empty file, both without an
+//! error. So this is asked earlier.
 
 use std::fmt;
 use std::io::{self, Stdin, Write};
@@ -10,6 +11,7 @@ use std::sync::atomic::{AtomicBool, Ordering};
 
 static INPUT_CLOSED: AtomicBool = AtomicBool::new(false);
 static OUTPUT_CLOSED: AtomicBool = AtomicBool::new(false);
+static ERROR_CLOSED: AtomicBool = AtomicBool::new(false);
 
 /// Bytes that are written at once.
 const BUFFER: usize = 1 << 16;
@@ -29,7 +31,7 @@ impl Output {
     }
 
     fn pass_on(&mut self) -> io::Result<()> {
-        not_closed(&OUTPUT_CLOSED)?;
+        output_is_open()?;
         io::stdout().write_all(&self.buffer)?;
         self.buffer.clear();
         Ok(())
@@ -68,20 +70,31 @@ impl Write for Output {
     }
 }
 
-/// Standard input; an error where it was closed.
+/// Standard input; an error where it cannot be read.
 pub fn input() -> io::Result<Stdin> {
-    not_closed(&INPUT_CLOSED)?;
+    not_closed(&INPUT_CLOSED, "it is not open for reading")?;
     Ok(io::stdin())
 }
 
-/// Writes a complaint or a note to standard error; there is nowhere to say that this failed.
+/// An error where standard output cannot be written: asked for before anything else is written.
+pub fn output_is_open() -> io::Result<()> {
+    not_closed(&OUTPUT_CLOSED, "it is not open for writing")
+}
+
+/// Writes a complaint to standard error; there is nowhere to say that this failed.
 pub fn complain(text: &str) {
     let _ = writeln!(io::stderr(), "avsplus: {}", text);
 }
 
-fn not_closed(closed: &AtomicBool) -> io::Result<()> {
+/// Writes to standard error what is a part of the answer.
+pub fn note(text: &str) -> io::Result<()> {
+    not_closed(&ERROR_CLOSED, "standard error is not open for writing")?;
+    writeln!(io::stderr(), "avsplus: {}", text)
+}
+
+fn not_closed(closed: &AtomicBool, why: &'static str) -> io::Result<()> {
     match closed.load(Ordering::Relaxed) {
-        true => Err(io::Error::new(io::ErrorKind::Other, "it is closed")),
+        true => Err(io::Error::new(io::ErrorKind::Other, why)),
         false => Ok(()),
     }
 }
@@ -90,14 +103,22 @@ extern "C" {
     fn fcntl(descriptor: c_int, command: c_int, ...) -> c_int;
 }
 
-/// Asks for a descriptor's flags, which a closed one has not.
-const F_GETFD: c_int = 1;
+/// Asks how a descriptor is open, which a closed one is not; the mode is in the last two bits.
+const F_GETFL: c_int = 3;
+const O_ACCMODE: c_int = 3;
+const O_RDONLY: c_int = 0;
+const O_WRONLY: c_int = 1;
 
 extern "C" fn look() {
-    for (descriptor, closed) in [(0, &INPUT_CLOSED), (1, &OUTPUT_CLOSED)] {
+    let streams = [
+        (0, O_WRONLY, &INPUT_CLOSED),
+        (1, O_RDONLY, &OUTPUT_CLOSED),
+        (2, O_RDONLY, &ERROR_CLOSED),
+    ];
+    for (descriptor, other_way, closed) in streams {
         // SAFETY: the command takes a number alone and changes nothing.
-        let flags = unsafe { fcntl(descriptor, F_GETFD) };
-        closed.store(flags == -1, Ordering::Relaxed);
+        let flags = unsafe { fcntl(descriptor, F_GETFL) };
+        closed.store(flags == -1 || flags & O_ACCMODE == other_way, Ordering::Relaxed);
     }
 }
 

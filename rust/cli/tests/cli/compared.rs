@@ -113,6 +113,7 @@ fn same_units(stream: &[u8], rows: &[u32], sheet: &Json) {
     let (mut groups, mut in_head, mut shown) = (0, false, 0);
     for (i, (row, unit)) in rows.chunks(3).zip(units).enumerate() {
         assert_eq!(numbers(unit, &["code", "offset", "length"]), wide(row));
+        assert_eq!(Some(unit.get("kind").text()), independent::kind(row[0] as u8));
         match row[0] {
             0xB0 => (groups, in_head, shown) = (groups + 1, true, 0),
             0xB3 | 0xB6 => in_head = false,
@@ -209,7 +210,7 @@ fn numbers_of_generated_payloads() {
         let found = json.get("numbers").list().iter();
         let found: Vec<Vec<i64>> = found.map(|number| numbers(number, &["place", "number"])).collect();
         assert_eq!(found, expected);
-        let names = ["number", "payload_bits", "bits_not_read", "next_place", "bits_left"];
+        let names = ["number", "payload_bits", "may_be_filling", "next_place", "bits_left"];
         let rest = [status.into(), bits as i64, 0, place as i64, (bits - place) as i64];
         assert_eq!(numbers(&json, &names), rest);
         assert_eq!(ran.status, i32::from(status != 0));

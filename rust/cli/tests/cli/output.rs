@@ -41,14 +41,7 @@ fn a_closed_pipe_is_no_failure() {
         &["file", &recording, "--json"],
         &["units", &recording],
     ] {
-        let mut child = started(arguments);
-        // A few bytes are read, and all others are not.
-        let mut output = BufReader::with_capacity(16, child.stdout.take().unwrap());
-        assert!(!output.fill_buf().unwrap().is_empty());
-        drop(output);
-        let done = child.wait_with_output().unwrap();
-        assert_eq!(done.status.code(), Some(0), "{:?}", arguments);
-        assert_eq!(String::from_utf8(done.stderr).unwrap(), "");
+        assert_eq!(read_a_little(arguments), (Some(0), String::new()), "{:?}", arguments);
     }
 }
 
@@ -68,7 +61,7 @@ fn closed_streams_and_full_disks() {
         assert_eq!((ran.status, ran.text()), (2, ""), "{}", arguments);
         assert!(ran
             .complaint
-            .ends_with("avsplus: cannot write standard output: it is closed\n"));
+            .ends_with("avsplus: cannot write standard output: it is not open for writing\n"));
         let ran = shell(&format!("\"$A\" {} >/dev/full", arguments));
         assert_eq!(ran.status, 2);
         assert!(ran.complaint.contains("avsplus: cannot write standard output: No space left"));
@@ -76,7 +69,66 @@ fn closed_streams_and_full_disks() {
         let unread = shell(&format!("\"$A\" {} >/dev/null", arguments));
         assert!(!unread.complaint.contains("write"));
     }
-    let ran = shell("\"$A\" file - <&-");
-    assert_eq!((ran.status, ran.text()), (2, ""));
-    assert_eq!(ran.complaint, "avsplus: cannot read standard input: it is closed\n");
+    for line in [
+        "\"$A\" file - <&-",
+        "\"$A\" file - 0>/dev/null",
+        "\"$A\" unescape - 0>/dev/null",
+    ] {
+        let ran = shell(line);
+        assert_eq!((ran.status, ran.text()), (2, ""), "{}", line);
+        assert_eq!(
+            ran.complaint,
+            "avsplus: cannot read standard input: it is not open for reading\n"
+        );
+    }
+}
+
+/// Output that is open for reading alone is lost too, and so is a bit count without standard error.
+#[test]
+fn streams_that_are_open_the_other_way() {
+    let raw = written("other-way.bin", &ESCAPED);
+    let output = path("other-way.out");
+    let _ = std::fs::remove_file(&output);
+    for redirection in ["1</dev/null", ">&-"] {
+        let ran = shell(&format!("\"$A\" unescape '{}' {}", raw, redirection));
+        assert_eq!((ran.status, ran.complaint.lines().count()), (2, 1));
+        // Without the bit count, which goes to standard output, the file would be of no use.
+        let ran = shell(&format!(
+            "\"$A\" unescape '{}' --output '{}' {}",
+            raw,
+            output.display(),
+            redirection
+        ));
+        assert_eq!((ran.status, output.exists()), (2, false));
+    }
+    for redirection in ["2>&-", "2</dev/null"] {
+        let ran = shell(&format!("\"$A\" unescape '{}' --output - {}", raw, redirection));
+        assert_eq!(ran.status, 2);
+    }
+}
+
+/// A refusal is one, however little of the output is read.
+#[test]
+fn a_closed_pipe_does_not_change_the_answer() {
+    let payload = written("pipe-cut.bin", &[&[0xFF; 65_535][..], &[0x01]].concat());
+    for arguments in [
+        &["golomb", &payload][..],
+        &["golomb", &payload, "--json"],
+        &["bins", &payload, "--count", "99999999"],
+        &["bins", &payload, "--count", "99999999", "--json"],
+    ] {
+        let (status, complaint) = read_a_little(arguments);
+        assert_eq!(status, Some(1), "{:?}", arguments);
+        assert_eq!(complaint.contains("PAYLOAD OUT"), !arguments.contains(&"--json"));
+    }
+}
+
+/// Runs the program for a reader who takes a few bytes and no more.
+fn read_a_little(arguments: &[&str]) -> (Option<i32>, String) {
+    let mut child = started(arguments);
+    let mut output = BufReader::with_capacity(16, child.stdout.take().unwrap());
+    assert!(!output.fill_buf().unwrap().is_empty());
+    drop(output);
+    let done = child.wait_with_output().unwrap();
+    (done.status.code(), String::from_utf8(done.stderr).unwrap())
 }

@@ -107,17 +107,24 @@ fn what_may_be_filling_is_said() {
     let ran = avsplus_reading(&["bins", "-", "--count", "1"], &[0x80, 0x40, 0x00]);
     assert_eq!(
         (ran.status, ran.text().lines().next()),
-        (1, Some("payload: 17 bits, and 7 bits at the end that may be filling"))
+        (1, Some("payload: 24 bits, of which the last 7 may be filling"))
     );
     let complaint =
-        "avsplus: PAYLOAD OUT (14): a bit is wanted and none is left; the last 7 bits may be filling and were not read: \
-        --bits says how many bits the payload has\n";
+        "avsplus: PAYLOAD OUT (14): 0 of 1 bins were decoded, then a bit is wanted and none is left; the last 7 bits, \
+        zeros, may be filling and are not read: --bits says how many bits the payload has\n";
     assert_eq!(ran.complaint, complaint);
+    // 1, then 01 and zeros, of which one would end the number.
+    let ran = avsplus_reading(&["golomb", "-"], &[0xA0]);
+    let complaint =
+        "avsplus: PAYLOAD OUT (14) at bit 1: 7 bits are left from bit 1 on; the last 5 bits, zeros, may be filling and are \
+        not read: --bits says how many bits the payload has
+";
+    assert_eq!((ran.status, ran.complaint.as_str()), (1, complaint));
     let json = avsplus_reading(&["golomb", "-", "--json"], &[0xA0]).json();
-    assert_eq!(
-        (json.get("payload_bits").number(), json.get("bits_not_read").number()),
-        (3, 5)
-    );
+    let counts = ["payload_bits", "may_be_filling", "next_place", "bits_left"].map(|name| json.get(name).number());
+    assert_eq!(counts, [8, 5, 1, 7]);
+    let json = avsplus_reading(&["golomb", "-", "--json", "--bits", "all", "--count", "2"], &[0xA0]).json();
+    assert_eq!(json.get("numbers").list()[1].get("number").number(), 1);
 }
 
 /// A recording whose unit 2, a slice, has the payload with the filling.
@@ -179,7 +186,7 @@ fn numbers_one_after_another() {
         "answer",
         "number",
         "payload_bits",
-        "bits_not_read",
+        "may_be_filling",
         "numbers",
         "next_place",
         "bits_left",
@@ -263,7 +270,7 @@ fn numbers_that_are_refused() {
     );
     assert_eq!(
         ran.complaint,
-        "avsplus: VALUE (8) at bit 1: 32 zeros or more stand before a 1, and no number is so long\n"
+        "avsplus: VALUE (8) at bit 1: 32 zeros stand here, and no number begins with so many\n"
     );
 }
 
@@ -274,7 +281,7 @@ fn bins_by_one_context() {
         context: mps 1, lg 827, cycno 1\n";
     assert_eq!((ran.status, ran.text()), (0, sheet));
     let ran = avsplus_reading(&["bins", "-", "--count", "3", "--json", "--bits", "all"], &[0x40, 0x00]);
-    let expected = "{\"answer\":\"done\",\"number\":0,\"payload_bits\":16,\"bits_not_read\":0,\"bins\":[0,0,1],\
+    let expected = "{\"answer\":\"done\",\"number\":0,\"payload_bits\":16,\"may_be_filling\":0,\"bins\":[0,0,1],\
         \"state\":{\"rs\":0,\"rt\":188,\"vs\":0,\"vt\":28,\"place\":12},\"context\":{\"mps\":0,\"lg\":927,\"cycno\":2}}\n";
     assert_eq!(ran.text(), expected);
 }
@@ -300,16 +307,107 @@ fn bins_that_are_refused() {
     let ran = avsplus_reading(&["bins", "-", "--count", "1", "--bits", "16"], &[0x80, 0x00]);
     assert_eq!(ran.status, 1);
     assert!(ran.text().starts_with("payload: 16 bits\nbins: \nstate: "));
-    assert_eq!(ran.complaint, "avsplus: PAYLOAD OUT (14): a bit is wanted and none is left\n");
+    assert_eq!(
+        ran.complaint,
+        "avsplus: PAYLOAD OUT (14): 0 of 1 bins were decoded, then a bit is wanted and none is left\n"
+    );
     let json = avsplus_reading(&["bins", "-", "--count", "1", "--json", "--bits=16"], &[0x80, 0x00]).json();
     assert_eq!(json.get("answer").text(), "PAYLOAD OUT");
     assert_eq!(json.get("bins").list(), []);
+    // Too short to start.
     let ran = avsplus_reading(&["bins", "-", "--count", "0", "--json", "--bits", "8"], &[0x80, 0x00]);
+    let json = ran.json();
     assert_eq!(
-        (ran.status, ran.text()),
-        (
-            1,
-            "{\"answer\":\"PAYLOAD OUT\",\"number\":14,\"meaning\":\"a bit is wanted and none is left\"}\n"
-        )
+        (ran.status, json.get("number").number(), json.get("payload_bits").number()),
+        (1, 14, 8)
     );
+    assert_eq!((json.get("state"), json.get("context")), (&Json::Null, &Json::Null));
+    let ran = avsplus_reading(&["bins", "-", "--count", "4", "--bits", "8"], &[0x80, 0x00]);
+    assert_eq!((ran.status, ran.text()), (1, "payload: 8 bits\n"));
+    let complaint = "avsplus: PAYLOAD OUT (14): the decoder could not start, then a bit is wanted and none is left\n";
+    assert_eq!(ran.complaint, complaint);
+}
+
+/// Bits that --bits says and that are not there are not made up, and a place past the end is no place.
+#[test]
+fn bits_and_places_that_are_not_there() {
+    for command in [&["golomb", "-"][..], &["bins", "-", "--count", "1"]] {
+        let ran = avsplus_reading(&[command, &["--bits", "32"]].concat(), &[0xB5, 0xB5]);
+        assert_eq!((ran.status, ran.text()), (2, ""));
+        assert_eq!(ran.complaint, "avsplus: cannot read 32 bits: there are 16\n");
+    }
+    let most = usize::MAX.to_string();
+    for (place, status) in [("16", 0), ("17", 1), (most.as_str(), 1)] {
+        let ran = avsplus_reading(&["golomb", "-", "--count", "0", "--place", place], &[0xB5, 0xB5]);
+        assert_eq!(ran.status, status, "{}", place);
+        let json = avsplus_reading(&["golomb", "-", "--json", "--count", "0", "--place", place], &[0xB5, 0xB5]).json();
+        assert_eq!(json.get("number").number(), if status == 0 { 0 } else { 14 });
+    }
+    let ran = avsplus_reading(&["golomb", "-", "--place", "17"], &[0xB5, 0xB5]);
+    let complaint = "avsplus: PAYLOAD OUT (14): bit 17 is past the payload's end: it has 16 bits\n";
+    assert_eq!((ran.text(), ran.complaint.as_str()), ("", complaint));
+}
+
+/// Of a file over the limit nothing is known but that.
+#[test]
+fn payloads_over_the_limit() {
+    let name = written("too-long.bin", &[0xFF; 100_000]);
+    for arguments in [
+        &["golomb", &name][..],
+        &["golomb", &name, "--count", "0"],
+        &["golomb", &name, "--bits", "8"],
+        &["golomb", &name, "--escaped"],
+        &["bins", &name, "--count", "0"],
+    ] {
+        let ran = avsplus(arguments);
+        assert_eq!((ran.status, ran.text()), (1, ""), "{:?}", arguments);
+        let complaint = "avsplus: TOO LONG (13): there are more bytes than the limit of 65536 for a payload\n";
+        assert_eq!(ran.complaint, complaint);
+    }
+}
+
+#[test]
+fn units_without_escape_bits() {
+    let name = written("no-payload.avs", &recording_with_payload());
+    for (command, n, kind) in [("unescape", "0", "sequence header"), ("golomb", "3", "sequence end")] {
+        let ran = avsplus(&[command, &name, "--unit", n]);
+        assert_eq!((ran.status, ran.text()), (2, ""));
+        let complaint = format!(
+            "avsplus: unit {} has no escape bits: it is of kind {}, and only pictures and slices have them\n",
+            n, kind
+        );
+        assert_eq!(ran.complaint, complaint);
+    }
+}
+
+#[test]
+fn a_file_is_replaced_whole_or_not_at_all() {
+    let name = written("itself.bin", &ESCAPED);
+    let ran = avsplus(&["unescape", &name, "--output", &name]);
+    assert_eq!((ran.status, ran.text()), (2, ""));
+    assert_eq!(
+        ran.complaint,
+        "avsplus: --output is FILE itself; see avsplus unescape --help\n"
+    );
+    assert_eq!(fs::read(&name).unwrap(), ESCAPED);
+    // What cannot be written whole leaves what was there, and nothing beside it.
+    let folder = path("replaced");
+    let _ = fs::remove_dir_all(&folder);
+    fs::create_dir(&folder).unwrap();
+    let kept = folder.join("kept.bin");
+    fs::write(&kept, b"kept").unwrap();
+    let line = format!(
+        "trap '' XFSZ; ulimit -f 0; \"$A\" unescape '{}' --output '{}'",
+        name,
+        kept.display()
+    );
+    let ran = shell(&line);
+    assert_eq!(ran.status, 2);
+    assert!(ran.complaint.starts_with("avsplus: cannot write "), "{}", ran.complaint);
+    assert_eq!(fs::read(&kept).unwrap(), b"kept");
+    assert_eq!(fs::read_dir(&folder).unwrap().count(), 1);
+    let ran = avsplus(&["unescape", &name, "--output", kept.to_str().unwrap()]);
+    assert_eq!((ran.status, fs::read(&kept).unwrap().len()), (0, 7));
+    assert_eq!(fs::read_dir(&folder).unwrap().count(), 1);
+    assert_eq!(avsplus(&["unescape", &name, "--output", "/dev/null"]).status, 0);
 }

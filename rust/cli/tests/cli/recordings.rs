@@ -62,7 +62,7 @@ fn refusals_of_the_examples() {
         (
             &unstuffed,
             "answer: STUFFING (9) at byte 0\nreason: the body's end is not as required\nbytes: 33\n\
-             there: 00 00 01 B0 48 40 0F 00 21 C2 4C C4 E2 08 00 20 ..\n",
+             there: 00 00 01 B0 48 40 0F 00 21 C2 4C C4 E2 08 00 20\n",
         ),
         (
             &with_slice(0x44),
@@ -97,14 +97,14 @@ fn recordings_that_begin_with_no_code() {
 #[test]
 fn a_recording_over_the_limit() {
     let ran = avsplus_reading(&["file", "-"], &vec![0; 16_777_217]);
-    assert!(
-        ran.text().starts_with(
-            "answer: TOO LONG (13) at byte 0\nreason: there are more bytes than the limit of 16777216\nbytes: more than 16777216\n"
-        ),
-        "{}",
-        ran.text()
-    );
-    assert_eq!(ran.status, 1);
+    let sheet = "answer: TOO LONG (13) at byte 0
+reason: there are more bytes than the limit of 16777216
+\
+        bytes: more than 16777216
+";
+    assert_eq!((ran.status, ran.text()), (1, sheet));
+    let json = avsplus_reading(&["file", "-", "--json"], &vec![0; 16_777_217]).json();
+    assert_eq!((json.get("number").number(), json.get("bytes")), (13, &Json::Null));
 }
 
 #[test]
@@ -217,7 +217,11 @@ fn copyright_numbers_are_texts() {
 #[test]
 fn a_refusal_as_json() {
     let stream = written("json-refused.avs", &example_1()[..29]);
-    for command in [&["file"][..], &["units"], &["header"], &["body"]] {
+    let ran = avsplus(&["file", &written("json-cut.avs", &example_1()[..32]), "--json"]);
+    let (json, names) = (ran.json(), ["answer", "number", "offset", "meaning", "bytes", "there"]);
+    assert_eq!((ran.status, json.names()), (1, names.to_vec()));
+    assert_eq!((json.get("bytes").number(), json.get("there").text()), (32, "000001"));
+    for command in [&["units"][..], &["header"], &["body"]] {
         let number: &[&str] = if command == ["body"] { &["0"] } else { &[] };
         let ran = avsplus(&[command, &[stream.as_str()], number, &["--json"]].concat());
         assert_eq!(

@@ -40,6 +40,10 @@ fn help_is_a_command_too() {
     assert!(ran
         .text()
         .contains("\n  14  PAYLOAD OUT   a bit is wanted and none is left\n"));
+    for topic in [&["--help"][..], &["-h"], &["help"], &["--json"]] {
+        let ran = avsplus(&[&["help"], topic].concat());
+        assert_eq!((ran.status, ran.text()), (0, avsplus(&["--help"]).text()));
+    }
     let ran = avsplus(&["help", "play"]);
     assert_eq!((ran.status, ran.text()), (2, ""));
     assert_eq!(ran.complaint, "avsplus: no command \"play\"; see avsplus --help\n");
@@ -114,7 +118,7 @@ fn wrong_arguments() {
         ),
         (
             &["golomb", "a", "--bits", "some"],
-            "--bits takes a whole number, not \"some\"; see avsplus golomb --help",
+            "--bits takes a whole number or all, not \"some\"; see avsplus golomb --help",
         ),
         (&["help", "file", "x"], "\"x\" is one argument too many; see avsplus --help"),
     ];
@@ -136,13 +140,13 @@ fn files_that_cannot_be_read_or_written() {
     ] {
         let ran = avsplus(arguments);
         assert_eq!((ran.status, ran.text()), (2, ""));
-        assert!(ran.complaint.starts_with(&format!("avsplus: cannot read {}: ", missing)));
+        assert!(ran.complaint.starts_with(&format!("avsplus: cannot read {:?}: ", missing)));
     }
     let nowhere = path("no-such-folder/out.bin");
     let nowhere = nowhere.to_str().unwrap();
     let ran = avsplus_reading(&["unescape", "-", "--output", nowhere], &[0x80]);
     assert_eq!((ran.status, ran.text()), (2, ""));
-    assert!(ran.complaint.starts_with(&format!("avsplus: cannot write {}: ", nowhere)));
+    assert!(ran.complaint.starts_with(&format!("avsplus: cannot write {:?}: ", nowhere)));
 }
 
 #[test]
