@@ -60,6 +60,10 @@ fn print(stream: &[u8]) -> Result<(), Refused> {
 }
 
 fn main() -> ExitCode {
+    if avsplus::version() != avsplus::INTERFACE {
+        eprintln!("recording: the library is not that of the crate");
+        return ExitCode::from(2);
+    }
     let stream = match read(std::env::args_os().nth(1)) {
         Ok(stream) => stream,
         Err(error) => {

@@ -21,7 +21,7 @@ use std::ffi::{OsStr, OsString};
 use std::io::{self, Write};
 use std::process::ExitCode;
 
-use avsplus::Reason;
+use avsplus::{Reason, Refused};
 
 use args::{Args, Shape};
 use failure::{Failure, Status};
@@ -166,12 +166,23 @@ fn run(given: &[OsString], output: &mut dyn Write) -> (bool, Result<Status, Fail
     if command.shape.asks_for_help(rest) {
         return (false, help_on(command, output));
     }
+    if let Err(failure) = library_fits() {
+        return (false, Err(failure));
+    }
     match command.shape.parse(&[&given[..before], rest].concat()) {
         Ok(args) => (
             args.json(),
             (command.run)(&args, output).map_err(|failure| failure.of(command.name)),
         ),
         Err(failure) => (false, Err(failure.of(command.name))),
+    }
+}
+
+/// Asked before anything is written: with another library no answer is one.
+fn library_fits() -> Result<(), Failure> {
+    match avsplus::version() {
+        avsplus::INTERFACE => Ok(()),
+        other => Err(Refused::from(Reason::OtherInterface(other)).into()),
     }
 }
 
