@@ -1,4 +1,6 @@
-//! Where each field of a layout lies in its body, most significant bit first.
+//! Where each field of a layout lies in its body, most significant bit first, and the values of those that are recorded.
+
+use crate::bodies::{CopyrightExtension, DisplayExtension, Extension, SequenceHeader};
 
 /// A field of a layout. Later versions may say more of it.
 #[derive(Debug, Clone, Copy, PartialEq, Eq)]
@@ -90,6 +92,90 @@ pub const COPYRIGHT: &[Field] = &[
 /// ```
 pub fn find(layout: &[Field], name: &str) -> Option<Field> {
     layout.iter().copied().find(|field| field.name == name)
+}
+
+/// The low part of a bit rate has so many values: 18 bits.
+const BIT_RATE_LOW: u32 = 1 << 18;
+/// The second and the third part of a copyright number have so many bits.
+const COPYRIGHT_PART: u32 = 22;
+
+/// The fields of a sequence header that are recorded, with their values, in bit order. The two parts of the bit rate follow from
+/// it, as it from them.
+///
+/// ```
+/// use avsplus::fields;
+///
+/// let body = [0x48, 0x40, 0x0F, 0x00, 0x21, 0xC2, 0x4C, 0xC4, 0xE2, 0x08, 0x00, 0x20, 0x02, 0x00, 0x80];
+/// let fields = fields::of_header(&avsplus::sequence_header(&body)?);
+/// let (field, value) = fields[3];
+/// assert_eq!((field.name, field.first_bit, field.width, value), ("horizontal size", 17, 14, 1920));
+/// # Ok::<(), avsplus::Refused>(())
+/// ```
+pub fn of_header(header: &SequenceHeader) -> Vec<(Field, u64)> {
+    let values = [
+        ("profile", header.profile),
+        ("level", header.level),
+        ("progressive", u32::from(header.progressive)),
+        ("horizontal size", header.horizontal_size),
+        ("vertical size", header.vertical_size),
+        ("chroma format", header.chroma_format),
+        ("precision", header.precision),
+        ("aspect", header.aspect),
+        ("frame rate code", header.frame_rate_code),
+        ("bit rate low", header.bit_rate % BIT_RATE_LOW),
+        ("bit rate high", header.bit_rate / BIT_RATE_LOW),
+        ("low delay", u32::from(header.low_delay)),
+        ("buffer size", header.buffer_size),
+    ];
+    placed(SEQUENCE_HEADER, &values.map(|(name, value)| (name, value.into())))
+}
+
+/// The same of a display extension: those of its colour only where it is given.
+pub fn of_display(display: &DisplayExtension) -> Vec<(Field, u64)> {
+    let number = Extension::Display(*display).number();
+    let mut values = vec![
+        ("number", number.into()),
+        ("format", display.format),
+        ("range", display.range),
+        ("colour given", display.colour.is_some().into()),
+    ];
+    let mut layout = DISPLAY;
+    if let Some(colour) = display.colour {
+        layout = DISPLAY_WITH_COLOUR;
+        values.extend([
+            ("primaries", colour.primaries),
+            ("transfer", colour.transfer),
+            ("matrix", colour.matrix),
+        ]);
+    }
+    values.extend([
+        ("width", display.width),
+        ("height", display.height),
+        ("stereo", display.stereo),
+    ]);
+    let values: Vec<(&str, u64)> = values.into_iter().map(|(name, value)| (name, value.into())).collect();
+    placed(layout, &values)
+}
+
+/// The same of a copyright extension. The three parts of its number follow from it, as it from them.
+pub fn of_copyright(copyright: &CopyrightExtension) -> Vec<(Field, u64)> {
+    let part = (1 << COPYRIGHT_PART) - 1;
+    let values = [
+        ("number", Extension::Copyright(*copyright).number().into()),
+        ("flag", copyright.flag.into()),
+        ("owner", copyright.owner.into()),
+        ("original", copyright.original.into()),
+        ("part one", copyright.number >> (2 * COPYRIGHT_PART)),
+        ("part two", copyright.number >> COPYRIGHT_PART & part),
+        ("part three", copyright.number & part),
+    ];
+    placed(COPYRIGHT, &values)
+}
+
+/// Each value with the field of its name.
+fn placed(layout: &[Field], values: &[(&str, u64)]) -> Vec<(Field, u64)> {
+    let placed = values.iter().filter_map(|&(name, value)| Some((find(layout, name)?, value)));
+    placed.collect()
 }
 
 #[cfg(test)]

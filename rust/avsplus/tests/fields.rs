@@ -1,7 +1,7 @@
 //! The tables of field places, which the sheet prints, against the values that the library reads: bodies are written by the tables,
 //! field by field, and read back.
 
-use avsplus::fields::{Field, COPYRIGHT, DISPLAY, DISPLAY_WITH_COLOUR, SEQUENCE_HEADER};
+use avsplus::fields::{self, Field, COPYRIGHT, DISPLAY, DISPLAY_WITH_COLOUR, SEQUENCE_HEADER};
 use avsplus::{extension, sequence_header, Extension, Reason, Scope};
 
 const BODIES: u64 = 2000;
@@ -65,83 +65,40 @@ fn values(layout: &[Field], numbers: &mut Numbers) -> Vec<u64> {
     layout.iter().map(value).collect()
 }
 
-/// What the library read of a field, by its name; none for what it does not record.
-type Read = Vec<(&'static str, u64)>;
+/// What the library read, field by field.
+type Read = Vec<(Field, u64)>;
 
 fn read_header(body: &[u8]) -> Result<Read, Reason> {
-    let header = sequence_header(body).map_err(|refused| refused.reason)?;
-    Ok(vec![
-        ("profile", header.profile.into()),
-        ("level", header.level.into()),
-        ("progressive", header.progressive.into()),
-        ("horizontal size", header.horizontal_size.into()),
-        ("vertical size", header.vertical_size.into()),
-        ("chroma format", header.chroma_format.into()),
-        ("precision", header.precision.into()),
-        ("aspect", header.aspect.into()),
-        ("frame rate code", header.frame_rate_code.into()),
-        ("bit rate low", u64::from(header.bit_rate) % 262_144),
-        ("bit rate high", u64::from(header.bit_rate) / 262_144),
-        ("low delay", header.low_delay.into()),
-        ("buffer size", header.buffer_size.into()),
-    ])
+    match sequence_header(body) {
+        Ok(header) => Ok(fields::of_header(&header)),
+        Err(refused) => Err(refused.reason),
+    }
 }
 
 fn read_extension(body: &[u8]) -> Result<Read, Reason> {
-    let read = extension(body, Scope::Head).map_err(|refused| refused.reason)?;
-    let mut fields = vec![("number", u64::from(read.number()))];
-    match read {
-        Extension::Display(display) => {
-            fields.extend([
-                ("format", display.format.into()),
-                ("range", display.range.into()),
-                ("colour given", display.colour.is_some().into()),
-                ("width", display.width.into()),
-                ("height", display.height.into()),
-                ("stereo", display.stereo.into()),
-            ]);
-            if let Some(colour) = display.colour {
-                fields.extend([
-                    ("primaries", colour.primaries.into()),
-                    ("transfer", colour.transfer.into()),
-                    ("matrix", colour.matrix.into()),
-                ]);
-            }
-        }
-        Extension::Copyright(copyright) => fields.extend([
-            ("flag", copyright.flag.into()),
-            ("owner", copyright.owner.into()),
-            ("original", copyright.original.into()),
-            ("part one", copyright.number >> 44),
-            ("part two", copyright.number >> 22 & 0x3F_FFFF),
-            ("part three", copyright.number & 0x3F_FFFF),
-        ]),
-        Extension::Opaque(_) => panic!("{:?} of {:02X?}", read, body),
+    match extension(body, Scope::Head) {
+        Ok(Extension::Display(display)) => Ok(fields::of_display(&display)),
+        Ok(Extension::Copyright(copyright)) => Ok(fields::of_copyright(&copyright)),
+        Ok(opaque) => panic!("{:?} of {:02X?}", opaque, body),
+        Err(refused) => Err(refused.reason),
     }
-    Ok(fields)
 }
 
-/// Bodies written by the table are read as they were written; a marker that is cleared is MARKER.
+/// Bodies written by the table are read as they were written: each field that is recorded, in bit order, with its value. A marker
+/// that is cleared is MARKER; reserved bits are any.
 fn holds(layout: &[Field], read: fn(&[u8]) -> Result<Read, Reason>) {
     for seed in 0..BODIES {
         let written = values(layout, &mut Numbers(seed));
-        let fields = read(&body(layout, &written)).unwrap();
-        for (i, (field, &value)) in layout.iter().zip(&written).enumerate() {
-            let found = fields.iter().find(|(name, _)| *name == field.name);
-            match (field.name, found) {
-                ("marker", None) => {
-                    let mut cleared = written.clone();
-                    cleared[i] = 0;
-                    assert_eq!(read(&body(layout, &cleared)), Err(Reason::Marker));
-                }
-                ("reserved", None) => {}
-                (name, found) => assert_eq!(found, Some(&(name, value)), "{:02X?}", body(layout, &written)),
-            }
+        let recorded = layout.iter().copied().zip(written.iter().copied());
+        let recorded: Read = recorded
+            .filter(|(field, _)| field.name != "marker" && field.name != "reserved")
+            .collect();
+        assert_eq!(read(&body(layout, &written)), Ok(recorded));
+        for (i, _) in layout.iter().enumerate().filter(|(_, field)| field.name == "marker") {
+            let mut cleared = written.clone();
+            cleared[i] = 0;
+            assert_eq!(read(&body(layout, &cleared)), Err(Reason::Marker));
         }
-        assert_eq!(
-            fields.len(),
-            layout.iter().filter(|f| !["marker", "reserved"].contains(&f.name)).count()
-        );
     }
 }
 

@@ -2,6 +2,8 @@
 
 use std::io::{self, Write};
 
+use avsplus::fields::Field;
+
 use crate::failure::{Failure, Refusal, Site, Written};
 
 /// A value that is no object and no list.
@@ -51,9 +53,9 @@ impl Object<'_> {
     }
 
     /// Fields of a layout.
-    pub fn fields(&mut self, fields: &[(&str, u64)]) -> Written {
-        for &(name, value) in fields {
-            self.put(&name.replace(' ', "_"), value)?;
+    pub fn fields(&mut self, fields: &[(Field, u64)]) -> Written {
+        for (field, value) in fields {
+            self.put(&field.name.replace(' ', "_"), *value)?;
         }
         Ok(())
     }

@@ -1,12 +1,12 @@
 //! The sheet of a recording: its units and its groups, as text and as JSON.
 //!
 //! Every number is read from the stream, with its first bit and its width beside it, or worked out from such numbers, with how
-//! beside it. Values come from the library; places from its tables of fields.
+//! beside it.
 
 use std::fmt::Display;
 use std::io::Write;
 
-use avsplus::fields::{self, Field, COPYRIGHT, DISPLAY, DISPLAY_WITH_COLOUR, SEQUENCE_HEADER};
+use avsplus::fields::{self, Field};
 use avsplus::{
     sequence_header, Colour, CopyrightExtension, DisplayExtension, DisplayRatio, Extension, Ratio, Reason, Recording, Refused,
     SequenceHeader, Unit,
@@ -17,9 +17,6 @@ use crate::json::Object;
 
 /// The low part of a bit rate has so many values: 18 bits.
 const BIT_RATE_LOW: u32 = 1 << 18;
-/// The second and third part of a copyright number have so many bits.
-const COPYRIGHT_PART: u32 = 22;
-
 // ── units ──
 
 /// The table of a recording's units.
@@ -117,130 +114,72 @@ pub fn group_text(output: &mut dyn Write, recording: &Recording<'_>, g: usize) -
 /// A table of fields that is being written.
 struct Table<'w> {
     output: &'w mut dyn Write,
-    layout: &'static [Field],
 }
 
 impl<'w> Table<'w> {
-    fn begin(output: &'w mut dyn Write, unit: usize, title: &str, layout: &'static [Field]) -> Result<Table<'w>, Failure> {
+    fn begin(output: &'w mut dyn Write, unit: usize, title: &str) -> Result<Table<'w>, Failure> {
         writeln!(output, "\n  unit {}: {}", unit, title)?;
         writeln!(output, "    {:<20}{:>9}{:>8}  value", "field", "first bit", "width")?;
-        Ok(Table { output, layout })
+        Ok(Table { output })
     }
 
-    /// A field of the layout, as it is in the stream.
-    fn field(&mut self, name: &str, value: impl Display) -> Written {
-        match fields::find(self.layout, name) {
-            Some(field) => writeln!(
-                self.output,
-                "    {:<20}{:>9}{:>8}  {}",
-                name, field.first_bit, field.width, value
-            )?,
-            None => writeln!(self.output, "    {:<37}  {}", name, value)?,
+    /// Fields as they are in the stream.
+    fn fields(&mut self, fields: &[(Field, u64)]) -> Written {
+        for (field, value) in fields {
+            let Field {
+                name, first_bit, width, ..
+            } = field;
+            writeln!(self.output, "    {:<20}{:>9}{:>8}  {}", name, first_bit, width, value)?;
         }
         Ok(())
     }
 
-    fn fields(&mut self, fields: &[(&str, u64)]) -> Written {
-        fields.iter().try_for_each(|&(name, value)| self.field(name, value))
+    /// A value that has no bits in the stream.
+    fn other(&mut self, name: &str, value: impl Display) -> Written {
+        Ok(writeln!(self.output, "    {:<37}  {}", name, value)?)
     }
 
     /// A value that follows from fields, and how.
     fn worked_out(&mut self, name: &str, value: impl Display, how: impl Display) -> Written {
-        Ok(writeln!(self.output, "    {:<37}  {}  worked out: {}", name, value, how)?)
+        self.other(name, format_args!("{}  worked out: {}", value, how))
     }
 }
 
-/// The fields of a sequence header that are recorded, by their names in the layout. The parts of the bit rate follow from it, as it
-/// from them.
-fn header_fields(header: &SequenceHeader) -> [(&'static str, u64); 13] {
-    [
-        ("profile", header.profile.into()),
-        ("level", header.level.into()),
-        ("progressive", header.progressive.into()),
-        ("horizontal size", header.horizontal_size.into()),
-        ("vertical size", header.vertical_size.into()),
-        ("chroma format", header.chroma_format.into()),
-        ("precision", header.precision.into()),
-        ("aspect", header.aspect.into()),
-        ("frame rate code", header.frame_rate_code.into()),
-        ("bit rate low", (header.bit_rate % BIT_RATE_LOW).into()),
-        ("bit rate high", (header.bit_rate / BIT_RATE_LOW).into()),
-        ("low delay", header.low_delay.into()),
-        ("buffer size", header.buffer_size.into()),
-    ]
-}
-
 fn header_text(output: &mut dyn Write, unit: usize, header: &SequenceHeader) -> Written {
-    let mut table = Table::begin(output, unit, "sequence header", SEQUENCE_HEADER)?;
-    table.fields(&header_fields(header))?;
+    let mut table = Table::begin(output, unit, "sequence header")?;
+    table.fields(&fields::of_header(header))?;
     let (high, low) = (header.bit_rate / BIT_RATE_LOW, header.bit_rate % BIT_RATE_LOW);
     let parts = format!("{} x {} + {}", high, BIT_RATE_LOW, low);
     table.worked_out("bit rate", header.bit_rate, parts)?;
     let sixteenth = |size: u32| format!("({} + 15) / 16", size);
-    table.worked_out(
-        "macroblock columns",
-        header.macroblock_columns,
-        sixteenth(header.horizontal_size),
-    )?;
+    let columns = sixteenth(header.horizontal_size);
+    table.worked_out("macroblock columns", header.macroblock_columns, columns)?;
     table.worked_out("macroblock rows", header.macroblock_rows, sixteenth(header.vertical_size))?;
-    table.worked_out(
-        "frame rate",
-        header.frame_rate,
-        format_args!("frame rate code {}", header.frame_rate_code),
-    )?;
-    table.worked_out(
-        "display ratio",
-        header.display_ratio,
-        format_args!("aspect {}", header.aspect),
-    )
+    let code = format!("frame rate code {}", header.frame_rate_code);
+    table.worked_out("frame rate", header.frame_rate, code)?;
+    table.worked_out("display ratio", header.display_ratio, format!("aspect {}", header.aspect))
 }
 
 fn display_text(output: &mut dyn Write, unit: usize, display: &DisplayExtension) -> Written {
-    let layout = match display.colour {
-        Some(_) => DISPLAY_WITH_COLOUR,
-        None => DISPLAY,
-    };
-    let mut table = Table::begin(output, unit, "display extension", layout)?;
-    table.field("format", display.format)?;
-    table.field("range", display.range)?;
-    table.field("colour given", u32::from(display.colour.is_some()))?;
+    let mut table = Table::begin(output, unit, "display extension")?;
+    table.fields(&fields::of_display(display))?;
     match display.colour {
-        Some(colour) => {
-            table.field("primaries", colour.primaries)?;
-            table.field("transfer", colour.transfer)?;
-            table.field("matrix", colour.matrix)?;
-        }
-        None => table.field("colour", "not given")?,
+        Some(_) => Ok(()),
+        None => table.other("primaries, transfer and matrix", "not given"),
     }
-    table.field("width", display.width)?;
-    table.field("height", display.height)?;
-    table.field("stereo", display.stereo)
-}
-
-/// The fields of a copyright extension that are recorded, by their names in the layout. The parts of its number follow from it, as it
-/// from them.
-fn copyright_fields(copyright: &CopyrightExtension) -> [(&'static str, u64); 6] {
-    let part = (1 << COPYRIGHT_PART) - 1;
-    [
-        ("flag", copyright.flag.into()),
-        ("owner", copyright.owner.into()),
-        ("original", copyright.original.into()),
-        ("part one", copyright.number >> (2 * COPYRIGHT_PART)),
-        ("part two", copyright.number >> COPYRIGHT_PART & part),
-        ("part three", copyright.number & part),
-    ]
 }
 
 fn copyright_text(output: &mut dyn Write, unit: usize, copyright: &CopyrightExtension) -> Written {
-    let mut table = Table::begin(output, unit, "copyright extension", COPYRIGHT)?;
-    let fields = copyright_fields(copyright);
+    let mut table = Table::begin(output, unit, "copyright extension")?;
+    let fields = fields::of_copyright(copyright);
     table.fields(&fields)?;
-    let [.., (_, one), (_, two), (_, three)] = fields;
-    table.worked_out(
-        "copyright number",
-        copyright.number,
-        format_args!("{} x 2^44 + {} x 2^22 + {}", one, two, three),
-    )
+    let parts: Vec<String> = fields
+        .iter()
+        .filter(|(field, _)| field.name.starts_with("part "))
+        .zip([" x 2^44", " x 2^22", ""])
+        .map(|((_, part), weight)| format!("{}{}", part, weight))
+        .collect();
+    table.worked_out("copyright number", copyright.number, parts.join(" + "))
 }
 
 // ── groups as JSON ──
@@ -250,7 +189,7 @@ pub fn group_json(object: &mut Object, recording: &Recording<'_>, g: usize) -> W
     let (unit, header) = header_of(recording, g)?;
     object.put("group", g)?;
     object.put("unit", unit)?;
-    object.object("header", |o| o.fields(&header_fields(&header)))?;
+    object.object("header", |o| o.fields(&fields::of_header(&header)))?;
     object.object("worked_out", |o| worked_out_json(o, &header))?;
     let display = extensions(recording, g).find_map(|found| match found {
         Ok((unit, Extension::Display(display))) => Some(Ok((unit, display))),
@@ -288,17 +227,17 @@ fn ratio_json(object: &mut Object, ratio: &Ratio) -> Written {
     object.put("denominator", ratio.denominator)
 }
 
+/// The colour is one member: its numbers, or null where it is not given.
 fn display_json(object: &mut Object, unit: usize, display: &DisplayExtension) -> Written {
+    let of_colour = ["colour given", "primaries", "transfer", "matrix"];
+    let mut fields = fields::of_display(display);
+    fields.retain(|(field, _)| !of_colour.contains(&field.name));
     object.put("unit", unit)?;
-    object.put("format", display.format)?;
-    object.put("range", display.range)?;
+    object.fields(&fields)?;
     match display.colour {
-        Some(colour) => object.object("colour", |o| colour_json(o, colour))?,
-        None => object.put("colour", None::<u32>)?,
+        Some(colour) => object.object("colour", |o| colour_json(o, colour)),
+        None => object.put("colour", None::<u32>),
     }
-    object.put("width", display.width)?;
-    object.put("height", display.height)?;
-    object.put("stereo", display.stereo)
 }
 
 fn colour_json(object: &mut Object, colour: Colour) -> Written {
@@ -310,6 +249,6 @@ fn colour_json(object: &mut Object, colour: Colour) -> Written {
 /// The number as a text: it has up to 64 bits, and readers of JSON round what is over 2^53.
 fn copyright_json(object: &mut Object, unit: usize, copyright: &CopyrightExtension) -> Written {
     object.put("unit", unit)?;
-    object.fields(&copyright_fields(copyright))?;
-    object.object("worked_out", |o| o.put("number", copyright.number.to_string()))
+    object.fields(&fields::of_copyright(copyright))?;
+    object.object("worked_out", |o| o.put("copyright_number", copyright.number.to_string()))
 }

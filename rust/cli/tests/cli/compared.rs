@@ -94,7 +94,10 @@ fn same_copyright(shown: &Json, unit: usize, copyright: &Copyright) {
         copyright.original.into(),
     ];
     assert_eq!(numbers(shown, &["unit", "flag", "owner", "original"]), expected);
-    assert_eq!(shown.get("worked_out").get("number").text(), copyright.number.to_string());
+    assert_eq!(
+        shown.get("worked_out").get("copyright_number").text(),
+        copyright.number.to_string()
+    );
 }
 
 /// Which extension a unit is, where it is one: none, or its kind with its number.

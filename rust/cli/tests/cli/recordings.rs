@@ -210,7 +210,10 @@ fn copyright_numbers_are_texts() {
         let copyright = &group.get("copyrights").list()[0];
         assert_eq!(copyright.get("unit").number(), unit);
         assert_eq!((copyright.get("owner").number(), copyright.get("flag").number()), (7, 1));
-        assert_eq!(copyright.get("worked_out").get("number").text(), "81985529216486895");
+        assert_eq!(
+            copyright.get("worked_out").get("copyright_number").text(),
+            "81985529216486895"
+        );
     }
 }
 
