@@ -122,14 +122,14 @@ fn refusal_at_end(given: &Given, bins: &Bins) -> Result<Option<Refusal>, Failure
         return Ok(Some(refusal));
     }
     let begun = match bins.state {
-        Some(_) => format!("{} of {} bins were decoded", bins.found, bins.wanted),
-        None => "the decoder could not start".to_string(),
+        Some(_) => format!("after {} of {} bins", bins.found, bins.wanted),
+        None => "to start".to_string(),
     };
     let unsure = match given.unsure {
         0 => String::new(),
         _ => format!("; {}", given.about_unsure()),
     };
-    let meaning = format!("{}, then a bit is wanted and none is left{}", begun, unsure);
+    let meaning = format!("{} a bit is wanted and none is left{}", begun, unsure);
     Ok(Some(refusal.meaning(meaning)))
 }
 

@@ -109,8 +109,7 @@ fn what_may_be_filling_is_said() {
         (ran.status, ran.text().lines().next()),
         (1, Some("payload: 24 bits, of which the last 7 may be filling"))
     );
-    let complaint =
-        "avsplus: PAYLOAD OUT (14): 0 of 1 bins were decoded, then a bit is wanted and none is left; the last 7 bits, \
+    let complaint = "avsplus: PAYLOAD OUT (14): after 0 of 1 bins a bit is wanted and none is left; the last 7 bits, \
         zeros, may be filling and are not read: --bits says how many bits the payload has\n";
     assert_eq!(ran.complaint, complaint);
     // 1, then 01 and zeros, of which one would end the number.
@@ -309,7 +308,7 @@ fn bins_that_are_refused() {
     assert!(ran.text().starts_with("payload: 16 bits\nbins: \nstate: "));
     assert_eq!(
         ran.complaint,
-        "avsplus: PAYLOAD OUT (14): 0 of 1 bins were decoded, then a bit is wanted and none is left\n"
+        "avsplus: PAYLOAD OUT (14): after 0 of 1 bins a bit is wanted and none is left\n"
     );
     let json = avsplus_reading(&["bins", "-", "--count", "1", "--json", "--bits=16"], &[0x80, 0x00]).json();
     assert_eq!(json.get("answer").text(), "PAYLOAD OUT");
@@ -324,7 +323,7 @@ fn bins_that_are_refused() {
     assert_eq!((json.get("state"), json.get("context")), (&Json::Null, &Json::Null));
     let ran = avsplus_reading(&["bins", "-", "--count", "4", "--bits", "8"], &[0x80, 0x00]);
     assert_eq!((ran.status, ran.text()), (1, "payload: 8 bits\n"));
-    let complaint = "avsplus: PAYLOAD OUT (14): the decoder could not start, then a bit is wanted and none is left\n";
+    let complaint = "avsplus: PAYLOAD OUT (14): to start a bit is wanted and none is left\n";
     assert_eq!(ran.complaint, complaint);
 }
 
