@@ -125,11 +125,11 @@ fn refusal_at_end(given: &Given, bins: &Bins) -> Result<Option<Refusal>, Failure
         Some(_) => format!("after {} of {} bins", bins.found, bins.wanted),
         None => "to start".to_string(),
     };
-    let unsure = match given.unsure {
-        0 => String::new(),
-        _ => format!("; {}", given.about_unsure()),
-    };
-    let meaning = format!("{} a bit is wanted and none is left{}", begun, unsure);
+    let meaning = format!(
+        "{} a bit is wanted and none is left{}",
+        begun,
+        given.about_unsure(given.unsure)
+    );
     Ok(Some(refusal.meaning(meaning)))
 }
 

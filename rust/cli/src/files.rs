@@ -3,10 +3,14 @@
 use std::ffi::OsStr;
 use std::fs::{self, File};
 use std::io::{self, Read};
-use std::process;
+use std::os::unix::fs::{FileTypeExt, MetadataExt};
 
 use crate::failure::Failure;
 use crate::standard;
+
+/// The names under which the system has the standard streams.
+const STANDARD_INPUT: &str = "/dev/stdin";
+const STANDARD_OUTPUT: &str = "/dev/stdout";
 
 /// Reads a recording.
 pub fn read_stream(name: &OsStr) -> Result<Vec<u8>, Failure> {
@@ -18,32 +22,41 @@ pub fn read_payload(name: &OsStr) -> Result<Vec<u8>, Failure> {
     read(name, avsplus::LONGEST_PAYLOAD)
 }
 
-/// Writes a file, which is either written whole or left as it was.
+/// Writes a file, in the place of what is there.
 pub fn write(name: &OsStr, bytes: &[u8]) -> Result<(), Failure> {
-    let written = match fs::canonicalize(name) {
-        Ok(place) if !place.is_file() => fs::write(place, bytes),
-        Ok(place) => replace(place.as_os_str(), bytes),
-        Err(_) => replace(name, bytes),
-    };
-    written.map_err(|error| Failure::Trouble(format!("cannot write {:?}: {}", name.to_string_lossy(), error)))
+    fs::write(name, bytes).map_err(|error| Failure::Trouble(format!("cannot write {:?}: {}", name.to_string_lossy(), error)))
 }
 
-/// Writes another file beside it first, and puts that in its place.
-fn replace(name: &OsStr, bytes: &[u8]) -> io::Result<()> {
-    let mut beside = name.to_os_string();
-    beside.push(format!(".{}.part", process::id()));
-    let written = fs::write(&beside, bytes).and_then(|()| fs::rename(&beside, name));
-    if written.is_err() {
-        // It may not be there.
-        let _ = fs::remove_file(&beside);
+/// Whether a name stands for standard input.
+pub fn is_standard_input(name: &OsStr) -> bool {
+    name == "-" || name == STANDARD_INPUT
+}
+
+/// Whether a name stands for standard output.
+pub fn is_standard_output(name: &OsStr) -> bool {
+    name == "-" || name == STANDARD_OUTPUT
+}
+
+/// Whether what is written to a name would go where input comes from. A device, such as /dev/null, may be both.
+pub fn would_overwrite(output: &OsStr, input: &OsStr) -> bool {
+    match is_standard_input(input) {
+        true => are_one(output, OsStr::new(STANDARD_INPUT)),
+        false => are_one(output, input),
     }
-    written
 }
 
-/// Whether two names are of one file.
-pub fn are_one(first: &OsStr, second: &OsStr) -> bool {
-    match (fs::canonicalize(first), fs::canonicalize(second)) {
-        (Ok(first), Ok(second)) => first == second,
+/// Whether what is written to a name would go where standard output goes.
+pub fn would_mix(output: &OsStr) -> bool {
+    are_one(output, OsStr::new(STANDARD_OUTPUT))
+}
+
+/// Whether two names are of one file or pipe.
+fn are_one(first: &OsStr, second: &OsStr) -> bool {
+    match (fs::metadata(first), fs::metadata(second)) {
+        (Ok(first), Ok(second)) => {
+            let device = first.file_type().is_char_device();
+            !device && (first.dev(), first.ino()) == (second.dev(), second.ino())
+        }
         _ => false,
     }
 }
@@ -51,7 +64,7 @@ pub fn are_one(first: &OsStr, second: &OsStr) -> bool {
 /// Reads a file, or standard input for `-`. One byte over the limit is enough to be TOO LONG, so no more is read.
 fn read(name: &OsStr, limit: usize) -> Result<Vec<u8>, Failure> {
     let most = limit as u64 + 1;
-    let (shown, bytes) = match name == "-" {
+    let (shown, bytes) = match is_standard_input(name) {
         true => (
             "standard input".to_string(),
             standard::input().and_then(|input| all(input, 0, most)),

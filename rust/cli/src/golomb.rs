@@ -56,16 +56,18 @@ pub fn golomb(args: &Args, output: &mut dyn Write) -> Result<Status, Failure> {
     let wanted = args.number_option("--count")?;
     let place = args.number_option("--place")?.unwrap_or(0);
     let given = Given::read(args)?;
-    if place > given.bits() {
-        return Err(Failure::Refused(past_the_end(&given, place)?));
-    }
     let mut numbers = Numbers {
         payload: &given.payload,
         signed: args.flag("--signed"),
         wanted,
         found: 0,
         place,
-        refused: None,
+        // A place past the end is none, even where no number is wanted.
+        refused: if place > given.bits() {
+            Some(Reason::PayloadOut.into())
+        } else {
+            None
+        },
     };
     if args.json() {
         let first = numbers.clone();
@@ -78,11 +80,6 @@ pub fn golomb(args: &Args, output: &mut dyn Write) -> Result<Status, Failure> {
     // Those that no reader waits for belong to the answer too.
     numbers.by_ref().for_each(drop);
     concluded(written, refusal_at_end(&given, &numbers)?, false)
-}
-
-fn past_the_end(given: &Given, place: usize) -> Result<Refusal, Failure> {
-    let meaning = format!("bit {} is past the payload's end: it has {}", place, bits(given.bits()));
-    Ok(refusal_of(Reason::PayloadOut.into())?.meaning(meaning))
 }
 
 /// What ended the numbers. Where no count was asked for, a payload that ends with a number is read to its end; one that does not
@@ -105,16 +102,27 @@ fn refusal_at_end(given: &Given, numbers: &Numbers) -> Result<Option<Refusal>, F
 
 /// What is left where a number is cut.
 fn cut(given: &Given, place: usize) -> String {
-    let left = match given.bits() - place {
+    if place > given.bits() {
+        return format!("bit {} is past the payload's end: it has {}", place, bits(given.bits()));
+    }
+    let left = given.bits() - place;
+    let are_left = match left {
         0 => return format!("a bit is wanted, and the payload has {}", bits(given.bits())),
         1 => "1 bit is".to_string(),
         left => format!("{} are", bits(left)),
     };
-    let with_all = Payload::whole(given.payload.bytes()).unsigned_golomb(place);
-    match given.unsure > 0 && with_all.is_ok() {
-        true => format!("{} left from bit {} on; {}", left, place, given.about_unsure()),
-        false => format!("{} left from bit {} on, no whole number", left, place),
-    }
+    // Whether they are a number with the bits that may be filling is for the caller to say.
+    let number = match Payload::whole(given.payload.bytes()).unsigned_golomb(place) {
+        Ok(_) if given.unsure > 0 => "",
+        _ => ", no whole number",
+    };
+    format!(
+        "{} left from bit {} on{}{}",
+        are_left,
+        place,
+        number,
+        given.about_unsure(left)
+    )
 }
 
 fn numbers_text(output: &mut dyn Write, given: &Given, numbers: &mut Numbers) -> Written {
@@ -138,6 +146,6 @@ fn numbers_json(output: &mut dyn Write, given: &Given, numbers: Numbers, next: u
             o.put("number", number)
         })?;
         object.put("next_place", next)?;
-        object.put("bits_left", given.bits() - next)
+        object.put("bits_left", given.bits().saturating_sub(next))
     })
 }

@@ -145,8 +145,8 @@ read or written.
 pub const GOLOMB: &str = concat!(
     "\
 Reads Exp-Golomb numbers one after another and prints each with its bit place. Without
---count it reads until the payload ends; bits that are left and are no whole number are
-a refusal, which says how many they are.
+--count it reads until the payload ends; bits that are left and are no whole number,
+such as zeros that may be filling, are a refusal, which says how many they are.
 
 Usage: avsplus golomb FILE [--unit N | --escaped | --bits N] [--signed] [--place P]
                            [--count K] [--json]

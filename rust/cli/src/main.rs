@@ -25,7 +25,7 @@ use avsplus::{Reason, Refused};
 
 use args::{Args, Shape};
 use failure::{Failure, Status};
-use standard::{complain, Output};
+use standard::{complain, output_is_open, Output};
 
 /// A command: its name, its help, its arguments and what it does.
 struct Command {
@@ -166,7 +166,7 @@ fn run(given: &[OsString], output: &mut dyn Write) -> (bool, Result<Status, Fail
     if command.shape.asks_for_help(rest) {
         return (false, help_on(command, output));
     }
-    if let Err(failure) = library_fits() {
+    if let Err(failure) = ready() {
         return (false, Err(failure));
     }
     match command.shape.parse(&[&given[..before], rest].concat()) {
@@ -178,8 +178,9 @@ fn run(given: &[OsString], output: &mut dyn Write) -> (bool, Result<Status, Fail
     }
 }
 
-/// Asked before anything is written: with another library no answer is one.
-fn library_fits() -> Result<(), Failure> {
+/// Asked before anything is done: no answer can be given to a standard output that is not open, nor with another library.
+fn ready() -> Result<(), Failure> {
+    output_is_open()?;
     match avsplus::version() {
         avsplus::INTERFACE => Ok(()),
         other => Err(Refused::from(Reason::OtherInterface(other)).into()),
@@ -194,16 +195,32 @@ fn find(name: &OsStr) -> Result<&'static Command, Failure> {
 /// What is no command: help and the version.
 fn asked_for_help(first: &OsStr, rest: &[OsString], output: &mut dyn Write) -> Option<Result<Status, Failure>> {
     Some(match first.to_str()? {
-        "--help" | "-h" => done(output.write_all(help::OVERVIEW.as_bytes())),
-        "--version" | "-V" => done(writeln!(
-            output,
-            "avsplus {}, library interface {}",
-            env!("CARGO_PKG_VERSION"),
-            avsplus::version()
-        )),
-        "help" => help(rest, output),
+        "help" | "--help" | "-h" => help(rest, output),
+        "--version" | "-V" => version(rest, output),
         _ => return None,
     })
+}
+
+fn version(rest: &[OsString], output: &mut dyn Write) -> Result<Status, Failure> {
+    only_one(rest)?;
+    let interface = avsplus::version();
+    done(writeln!(
+        output,
+        "avsplus {}, library interface {}",
+        env!("CARGO_PKG_VERSION"),
+        interface
+    ))
+}
+
+/// No more arguments but `--json`: help and the version are text, whatever else is asked for.
+fn only_one(rest: &[OsString]) -> Result<(), Failure> {
+    match rest.iter().find(|&argument| argument != "--json") {
+        Some(extra) => Err(Failure::usage(format!(
+            "{:?} is one argument too many",
+            extra.to_string_lossy()
+        ))),
+        None => Ok(()),
+    }
 }
 
 fn done(written: io::Result<()>) -> Result<Status, Failure> {
@@ -211,15 +228,12 @@ fn done(written: io::Result<()>) -> Result<Status, Failure> {
 }
 
 /// `help [COMMAND | refusals | --man]`
-fn help(topics: &[OsString], output: &mut dyn Write) -> Result<Status, Failure> {
-    // Help is text, whatever else is asked for.
-    let mut topics = topics.iter().filter(|&topic| topic != "--json");
-    let (topic, extra) = (topics.next(), topics.next());
-    if let Some(extra) = extra {
-        let message = format!("{:?} is one argument too many", extra.to_string_lossy());
-        return Err(Failure::usage(message));
+fn help(rest: &[OsString], output: &mut dyn Write) -> Result<Status, Failure> {
+    let topic = rest.iter().position(|topic| topic != "--json");
+    if let Some(topic) = topic {
+        only_one(&rest[topic + 1..])?;
     }
-    match topic.map(|topic| topic.to_string_lossy()).as_deref() {
+    match topic.map(|topic| rest[topic].to_string_lossy()).as_deref() {
         None | Some("help" | "--help" | "-h") => done(output.write_all(help::OVERVIEW.as_bytes())),
         Some("refusals") => done(write_refusals(output)),
         Some("--man") => done(manual::write(output)),

@@ -7,10 +7,10 @@ use avsplus::{Kind, Payload, Reason, Refused};
 
 use crate::args::Args;
 use crate::failure::{Failure, Refusal, Status, Written};
-use crate::files::{are_one, read_payload, read_stream, write};
+use crate::files::{is_standard_output, read_payload, read_stream, would_mix, would_overwrite, write};
 use crate::json::{self, write_hex, Object};
 use crate::recordings::{file_stream, unit};
-use crate::standard::{note, output_is_open};
+use crate::standard::{error_is_open, note};
 
 /// The answer to a payload that was read.
 pub const DONE: &str = "done";
@@ -71,13 +71,14 @@ impl Given {
         self.payload.bits() + self.unsure
     }
 
-    /// What is to be said of bits that are not read, where one of them is wanted.
-    pub fn about_unsure(&self) -> String {
-        format!(
-            "the last {}, zeros, may be filling and {} not read: --bits says how many bits the payload has",
-            bits(self.unsure),
-            if self.unsure == 1 { "is" } else { "are" }
-        )
+    /// What is to be said of so many bits, or of those that are not read where these are fewer.
+    pub fn about_unsure(&self, left: usize) -> String {
+        let what = match self.unsure.min(left) {
+            0 => return String::new(),
+            1 => "the last bit, a zero, may be filling and is".to_string(),
+            many => format!("the last {} bits, zeros, may be filling and are", many),
+        };
+        format!("; {} not read: --bits says how many bits the payload has", what)
     }
 
     /// The first line of text.
@@ -169,17 +170,18 @@ pub fn concluded(written: Written, refusal: Option<Refusal>, json: bool) -> Resu
 
 /// `unescape FILE [--unit N] [--output OUT]`: escape bits removed.
 pub fn unescape(args: &Args, output: &mut dyn Write) -> Result<Status, Failure> {
-    let to = args.option("--output");
-    if to.map_or(false, |name| are_one(name, args.operand(0))) {
+    let to = match args.option("--output") {
+        Some(name) if is_standard_output(name) => return unescape_to_standard(args, output),
+        to => to,
+    };
+    if to.map_or(false, |name| would_overwrite(name, args.operand(0))) {
         return Err(Failure::usage("--output is FILE itself"));
     }
-    if to == Some(OsStr::new("-")) {
-        return unescape_to_standard(args, output);
+    if to.map_or(false, would_mix) {
+        return Err(Failure::usage("--output is where standard output goes; say --output -"));
     }
     let payload = unescaped(args)?;
     if let Some(name) = to {
-        // Without the bit count, which goes there, the file is of no use.
-        output_is_open()?;
         write(name, payload.bytes())?;
     }
     match args.json() {
@@ -194,11 +196,12 @@ fn unescape_to_standard(args: &Args, output: &mut dyn Write) -> Result<Status, F
     if args.json() {
         return Err(Failure::usage("--json and --output - exclude each other"));
     }
+    let lost = |error: io::Error| Failure::Trouble(format!("cannot write the bit count: {}", error));
+    error_is_open().map_err(lost)?;
     let payload = unescaped(args)?;
     output.write_all(payload.bytes())?;
     output.flush()?;
-    let count = format!("{}: read them with --bits {}", bits(payload.bits()), payload.bits());
-    note(&count).map_err(|error| Failure::Trouble(format!("cannot write the bit count: {}", error)))?;
+    note(&format!("{}: read them with --bits {}", bits(payload.bits()), payload.bits())).map_err(lost)?;
     Ok(Status::Done)
 }
 

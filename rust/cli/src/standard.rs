@@ -76,7 +76,7 @@ pub fn input() -> io::Result<Stdin> {
     Ok(io::stdin())
 }
 
-/// An error where standard output cannot be written: asked for before anything else is written.
+/// An error where standard output cannot be written: asked for before anything is done.
 pub fn output_is_open() -> io::Result<()> {
     not_closed(&OUTPUT_CLOSED, "it is not open for writing")
 }
@@ -86,9 +86,13 @@ pub fn complain(text: &str) {
     let _ = writeln!(io::stderr(), "avsplus: {}", text);
 }
 
+/// An error where standard error cannot be written.
+pub fn error_is_open() -> io::Result<()> {
+    not_closed(&ERROR_CLOSED, "standard error is not open for writing")
+}
+
 /// Writes to standard error what is a part of the answer.
 pub fn note(text: &str) -> io::Result<()> {
-    not_closed(&ERROR_CLOSED, "standard error is not open for writing")?;
     writeln!(io::stderr(), "avsplus: {}", text)
 }
 

@@ -69,8 +69,11 @@ fn closed_streams_and_full_disks() {
         let unread = shell(&format!("\"$A\" {} >/dev/null", arguments));
         assert!(!unread.complaint.contains("write"));
     }
+    // Nothing would be written of an empty body, but nobody could have read it.
+    assert_eq!(shell(&format!("\"$A\" body '{}' 3 >&-", name)).status, 2);
     for line in [
         "\"$A\" file - <&-",
+        "\"$A\" file /dev/stdin <&-",
         "\"$A\" file - 0>/dev/null",
         "\"$A\" unescape - 0>/dev/null",
     ] {

@@ -122,6 +122,12 @@ fn what_may_be_filling_is_said() {
     let json = avsplus_reading(&["golomb", "-", "--json"], &[0xA0]).json();
     let counts = ["payload_bits", "may_be_filling", "next_place", "bits_left"].map(|name| json.get(name).number());
     assert_eq!(counts, [8, 5, 1, 7]);
+    // Zeros that would be no number either.
+    let ran = avsplus_reading(&["golomb", "-", "--place", "7"], &[0x80]);
+    let complaint =
+        "avsplus: PAYLOAD OUT (14) at bit 7: 1 bit is left from bit 7 on, no whole number; the last bit, a zero, may be \
+        filling and is not read: --bits says how many bits the payload has\n";
+    assert_eq!((ran.status, ran.complaint.as_str()), (1, complaint));
     let json = avsplus_reading(&["golomb", "-", "--json", "--bits", "all", "--count", "2"], &[0xA0]).json();
     assert_eq!(json.get("numbers").list()[1].get("number").number(), 1);
 }
@@ -343,8 +349,11 @@ fn bits_and_places_that_are_not_there() {
         assert_eq!(json.get("number").number(), if status == 0 { 0 } else { 14 });
     }
     let ran = avsplus_reading(&["golomb", "-", "--place", "17"], &[0xB5, 0xB5]);
-    let complaint = "avsplus: PAYLOAD OUT (14): bit 17 is past the payload's end: it has 16 bits\n";
-    assert_eq!((ran.text(), ran.complaint.as_str()), ("", complaint));
+    let complaint = "avsplus: PAYLOAD OUT (14) at bit 17: bit 17 is past the payload's end: it has 16 bits\n";
+    assert_eq!(
+        (ran.text(), ran.complaint.as_str()),
+        ("payload: 16 bits\nnext place: 17\n", complaint)
+    );
 }
 
 /// Of a file over the limit nothing is known but that.
@@ -380,33 +389,43 @@ fn units_without_escape_bits() {
 }
 
 #[test]
-fn a_file_is_replaced_whole_or_not_at_all() {
+fn an_output_that_is_the_input_is_refused() {
     let name = written("itself.bin", &ESCAPED);
-    let ran = avsplus(&["unescape", &name, "--output", &name]);
-    assert_eq!((ran.status, ran.text()), (2, ""));
-    assert_eq!(
-        ran.complaint,
-        "avsplus: --output is FILE itself; see avsplus unescape --help\n"
-    );
-    assert_eq!(fs::read(&name).unwrap(), ESCAPED);
-    // What cannot be written whole leaves what was there, and nothing beside it.
-    let folder = path("replaced");
-    let _ = fs::remove_dir_all(&folder);
-    fs::create_dir(&folder).unwrap();
-    let kept = folder.join("kept.bin");
-    fs::write(&kept, b"kept").unwrap();
-    let line = format!(
-        "trap '' XFSZ; ulimit -f 0; \"$A\" unescape '{}' --output '{}'",
+    let linked = path("itself-linked.bin");
+    let _ = fs::remove_file(&linked);
+    fs::hard_link(&name, &linked).unwrap();
+    let refused = "avsplus: --output is FILE itself; see avsplus unescape --help\n";
+    for line in [
+        format!("\"$A\" unescape '{}' --output '{}'", name, name),
+        format!("\"$A\" unescape '{}' --output '{}'", name, linked.display()),
+        format!("\"$A\" unescape - --output '{}' <'{}'", name, name),
+    ] {
+        let ran = shell(&line);
+        assert_eq!((ran.status, ran.text(), ran.complaint.as_str()), (2, "", refused));
+        assert_eq!(fs::read(&name).unwrap(), ESCAPED);
+    }
+    let mixed = path("mixed.out");
+    let ran = shell(&format!(
+        "\"$A\" unescape '{}' --output '{}' >'{}'",
         name,
-        kept.display()
-    );
-    let ran = shell(&line);
-    assert_eq!(ran.status, 2);
-    assert!(ran.complaint.starts_with("avsplus: cannot write "), "{}", ran.complaint);
-    assert_eq!(fs::read(&kept).unwrap(), b"kept");
-    assert_eq!(fs::read_dir(&folder).unwrap().count(), 1);
-    let ran = avsplus(&["unescape", &name, "--output", kept.to_str().unwrap()]);
-    assert_eq!((ran.status, fs::read(&kept).unwrap().len()), (0, 7));
-    assert_eq!(fs::read_dir(&folder).unwrap().count(), 1);
+        mixed.display(),
+        mixed.display()
+    ));
+    assert_eq!((ran.status, fs::read(&mixed).unwrap().len()), (2, 0));
     assert_eq!(avsplus(&["unescape", &name, "--output", "/dev/null"]).status, 0);
+}
+
+/// What is written goes through links, and to standard output by its other name too.
+#[test]
+fn outputs_by_other_names() {
+    let name = written("other-names.bin", &ESCAPED);
+    let (target, link) = (path("target.out"), path("link.out"));
+    let _ = (fs::remove_file(&target), fs::remove_file(&link));
+    std::os::unix::fs::symlink(&target, &link).unwrap();
+    assert_eq!(avsplus(&["unescape", &name, "--output", link.to_str().unwrap()]).status, 0);
+    assert_eq!(fs::read(&target).unwrap().len(), 7);
+    assert!(fs::symlink_metadata(&link).unwrap().file_type().is_symlink());
+    let ran = avsplus(&["unescape", &name, "--output", "/dev/stdout"]);
+    assert_eq!((ran.status, ran.output.len()), (0, 7));
+    assert_eq!(ran.complaint, "avsplus: 54 bits: read them with --bits 54\n");
 }

@@ -31,6 +31,7 @@ fn help_is_a_command_too() {
     for command in COMMANDS {
         let ran = avsplus(&["help", command]);
         assert_eq!((ran.status, ran.text()), (0, avsplus(&[command, "--help"]).text()));
+        assert_eq!(avsplus(&["--help", command]).text(), ran.text());
     }
     let ran = avsplus(&["help", "refusals"]);
     assert_eq!(
@@ -81,7 +82,7 @@ fn json_may_be_asked_for_before_the_command() {
 
 #[test]
 fn wrong_arguments() {
-    let wrong: [(&[&str], &str); 15] = [
+    let wrong: [(&[&str], &str); 16] = [
         (&[], "no command given; see avsplus --help"),
         (&["play"], "no command \"play\"; see avsplus --help"),
         (&["file"], "REC is missing; see avsplus file --help"),
@@ -121,6 +122,7 @@ fn wrong_arguments() {
             "--bits takes a whole number or all, not \"some\"; see avsplus golomb --help",
         ),
         (&["help", "file", "x"], "\"x\" is one argument too many; see avsplus --help"),
+        (&["--version", "x"], "\"x\" is one argument too many; see avsplus --help"),
     ];
     for (arguments, complaint) in wrong {
         let ran = avsplus(arguments);
