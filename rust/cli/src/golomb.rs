@@ -14,7 +14,7 @@ use crate::payloads::{bits, concluded, refusal_of, Given, DONE};
 struct Numbers<'p> {
     payload: &'p Payload<'static>,
     signed: bool,
-    /// How many are wanted yet, where that was said.
+    /// How many are wanted, where that was said.
     wanted: Option<usize>,
     found: usize,
     /// The place of the next one.

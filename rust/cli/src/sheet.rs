@@ -15,8 +15,6 @@ use avsplus::{
 use crate::failure::{Failure, Written};
 use crate::json::Object;
 
-/// The low part of a bit rate has so many values: 18 bits.
-const BIT_RATE_LOW: u32 = 1 << 18;
 // ── units ──
 
 /// The table of a recording's units.
@@ -42,7 +40,7 @@ pub fn units_text(output: &mut dyn Write, recording: &Recording<'_>) -> Written 
     Ok(())
 }
 
-/// The units as members of JSON objects.
+/// A unit as members of a JSON object.
 pub fn unit_json(object: &mut Object, unit: Unit<'_>) -> Written {
     object.put("unit", unit.index)?;
     object.put("group", unit.group)?;
@@ -147,9 +145,9 @@ impl<'w> Table<'w> {
 
 fn header_text(output: &mut dyn Write, unit: usize, header: &SequenceHeader) -> Written {
     let mut table = Table::begin(output, unit, "sequence header")?;
-    table.fields(&fields::of_header(header))?;
-    let (high, low) = (header.bit_rate / BIT_RATE_LOW, header.bit_rate % BIT_RATE_LOW);
-    let parts = format!("{} x {} + {}", high, BIT_RATE_LOW, low);
+    let fields = fields::of_header(header);
+    table.fields(&fields)?;
+    let parts = sum(&fields, &[("bit rate high", " x 262144"), ("bit rate low", "")]);
     table.worked_out("bit rate", header.bit_rate, parts)?;
     let sixteenth = |size: u32| format!("({} + 15) / 16", size);
     let columns = sixteenth(header.horizontal_size);
@@ -173,13 +171,17 @@ fn copyright_text(output: &mut dyn Write, unit: usize, copyright: &CopyrightExte
     let mut table = Table::begin(output, unit, "copyright extension")?;
     let fields = fields::of_copyright(copyright);
     table.fields(&fields)?;
-    let parts: Vec<String> = fields
-        .iter()
-        .filter(|(field, _)| field.name.starts_with("part "))
-        .zip([" x 2^44", " x 2^22", ""])
-        .map(|((_, part), weight)| format!("{}{}", part, weight))
-        .collect();
-    table.worked_out("copyright number", copyright.number, parts.join(" + "))
+    let parts = [("part one", " x 2^44"), ("part two", " x 2^22"), ("part three", "")];
+    table.worked_out("copyright number", copyright.number, sum(&fields, &parts))
+}
+
+/// How a value is put together from fields: the sum of those of these names, each with its weight.
+fn sum(fields: &[(Field, u64)], parts: &[(&str, &str)]) -> String {
+    let part = |&(name, weight): &(&str, &str)| {
+        let (_, value) = fields.iter().find(|(field, _)| field.name == name)?;
+        Some(format!("{}{}", value, weight))
+    };
+    parts.iter().filter_map(part).collect::<Vec<_>>().join(" + ")
 }
 
 // ── groups as JSON ──
