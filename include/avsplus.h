@@ -90,8 +90,8 @@ enum {
     AVSPLUS_HEADER_BIT_RATE = 9,
     AVSPLUS_HEADER_LOW_DELAY = 10,
     AVSPLUS_HEADER_BUFFER_SIZE = 11,
-    AVSPLUS_HEADER_MACROBLOCK_COLUMNS = 12,
-    AVSPLUS_HEADER_MACROBLOCK_ROWS = 13,
+    AVSPLUS_HEADER_MACROBLOCK_COLUMNS = 12, /* (horizontal size + 15) / 16, whole division */
+    AVSPLUS_HEADER_MACROBLOCK_ROWS = 13, /* 2 * ((vertical size + 31) / 32) if progressive is 0, else (vertical size + 15) / 16 */
     AVSPLUS_HEADER_NUMBERS = 14
 };
 

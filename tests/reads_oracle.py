@@ -6,7 +6,8 @@ this to crates/run_reads/stdout, and rt ci holds the program to that file.
 
     read BYTES COUNT PLACE WIDTH    the bit there or none; the number, none or wide
     prefix AT                       whether 00 00 01 stands there
-    macroblocks WIDTH HEIGHT        columns, rows, whether slices are tested
+    macroblocks PROGRESSIVE WIDTH HEIGHT
+                                    columns, rows, whether slices are tested
     row LENT I                      whether it exists, and its body
 """
 from questions import Questions, bits_of, hexed
@@ -40,8 +41,9 @@ def prefixes():
 
 
 def macroblocks():
-    for horizontal, vertical in ASKED.calls("macroblock"):
-        print("macroblocks", horizontal, vertical, (horizontal + 15) // 16, (vertical + 15) // 16, int(vertical <= 2800))
+    for progressive, horizontal, vertical in ASKED.calls("macroblock"):
+        rows = (vertical + 15) // 16 if progressive else 2 * ((vertical + 31) // 32)
+        print("macroblocks", progressive, horizontal, vertical, (horizontal + 15) // 16, rows, int(vertical <= 2800))
 
 
 def rows():

@@ -138,8 +138,10 @@ def bodies():
 
 
 def take_header(body):
-    vertical = read_header(body)["vertical"]
-    return [HEAD, int(vertical <= 2800), (vertical + 15) // 16, 0]
+    header = read_header(body)
+    vertical = header["vertical"]
+    rows = (vertical + 15) // 16 if header["progressive"] else 2 * ((vertical + 31) // 32)
+    return [HEAD, int(vertical <= 2800), rows, 0]
 
 
 def take_extension(state, body):

@@ -13,6 +13,7 @@ use Rattle.bodies.specs.Extensions.{numbered, isOpaque}
 use Rattle.bodies.specs.Records.{headerRecord, plainRecord, colouredRecord, copyrightRecord}
 use Rattle.bodies.specs.Answers.{faultNumber}
 use Rattle.ratios.specs.Ratios.{entryOf, frameRate, displayRatio}
+use Rattle.macroblocks.specs.Macroblocks.{macroblockRows}
 use Rattle.grammar.specs.Rows.{rowLength}
 use Rattle.grammar.specs.Reader.{cut, step, walkFrom, walkOfAny, walk, filing, walkInto, filingInto}
 use Rattle.rows.specs.Rows.{heldRow, inStream, existing}
@@ -31,9 +32,9 @@ each [] eq = tt
 each (e ∷ es) eq = (cc, each es cc)
 
 pub examples-hold : All Holds examples
-unfolding bitsIn bitsOf bitAt readOn readAt packOn kindOf begins fields leastBytes faultAt allows valuesOf judge cross judged ended reading headerRecord faultNumber answerOf recordOf headerOf rowLength isOpaque numbered cut step walkFrom walkOfAny walk filing walkInto filingInto kept copied removal zerosOn golomb standsFor signedGolomb goodState goodContext withinLimit refusedFirst doubleOf shifts startOf splitOf missesOf remainderOf unpredictedOf stepOf rateOf nextCycno nextLg gainOf foldOf updateOf decodeOf bins
+unfolding bitsIn bitsOf bitAt readOn readAt packOn kindOf begins fields leastBytes faultAt allows valuesOf judge cross judged ended reading headerRecord faultNumber answerOf recordOf headerOf macroblockRows rowLength isOpaque numbered cut step walkFrom walkOfAny walk filing walkInto filingInto kept copied removal zerosOn golomb standsFor signedGolomb goodState goodContext withinLimit refusedFirst doubleOf shifts startOf splitOf missesOf remainderOf unpredictedOf stepOf rateOf nextCycno nextLg gainOf foldOf updateOf decodeOf bins
 examples-hold = each examples refl
 
 pub limits-hold : All Holds limits
-unfolding bitsIn bitsOf bitAt readOn readAt packOn kindOf begins fields leastBytes faultAt allows valuesOf judge cross judged ended reading headerRecord faultNumber answerOf recordOf headerOf rowLength isOpaque numbered cut step walkFrom walkOfAny walk filing heldRow inStream existing displayIn groupIn groupAt kept copied removal zerosOn golomb standsFor signedGolomb goodState goodContext withinLimit refusedFirst doubleOf shifts startOf splitOf missesOf remainderOf unpredictedOf stepOf rateOf nextCycno nextLg gainOf foldOf updateOf decodeOf plainRecord colouredRecord copyrightRecord ownership plainOf colouredOf copyrightOf ownerRules displayShort displayOf byNumber extensionResult extensionOf entryOf frameRate displayRatio pairOf decodePairOf writtenOn bytesIn changed
+unfolding bitsIn bitsOf bitAt readOn readAt packOn kindOf begins fields leastBytes faultAt allows valuesOf judge cross judged ended reading headerRecord faultNumber answerOf recordOf headerOf macroblockRows rowLength isOpaque numbered cut step walkFrom walkOfAny walk filing heldRow inStream existing displayIn groupIn groupAt kept copied removal zerosOn golomb standsFor signedGolomb goodState goodContext withinLimit refusedFirst doubleOf shifts startOf splitOf missesOf remainderOf unpredictedOf stepOf rateOf nextCycno nextLg gainOf foldOf updateOf decodeOf plainRecord colouredRecord copyrightRecord ownership plainOf colouredOf copyrightOf ownerRules displayShort displayOf byNumber extensionResult extensionOf entryOf frameRate displayRatio pairOf decodePairOf writtenOn bytesIn changed
 limits-hold = each limits refl

@@ -112,9 +112,13 @@ headerWith field v = headerOf (body 15 (changed field v (headerFields 720 576)))
 abbrev pub headerThen : List ℕ → Outcome (List ℕ)
 headerThen end = mapDone (λ h. []) (headerOf (take 14 (body 15 (headerFields 720 576)) ++ end))
 
--- columns and rows by sizes
-abbrev pub macroblocks : ℕ → ℕ → Outcome (List ℕ)
-macroblocks horizontal vertical = mapDone (λ h. macroblockColumns h ∷ macroblockRows h ∷ []) (headerOf (body 15 (headerFields horizontal vertical)))
+-- with this progressive and these sizes
+abbrev pub headerOfSizes : ℕ → ℕ → ℕ → List ℕ
+headerOfSizes progressive horizontal vertical = body 15 (changed 2 progressive (headerFields horizontal vertical))
+
+-- columns and rows by progressive and sizes
+abbrev pub macroblocks : ℕ → ℕ → ℕ → Outcome (List ℕ)
+macroblocks progressive horizontal vertical = mapDone (λ h. macroblockColumns h ∷ macroblockRows h ∷ []) (headerOf (headerOfSizes progressive horizontal vertical))
 
 abbrev pub fraction : Ratio → Outcome (List ℕ)
 fraction (ratio.Given numerator denominator) = done (numerator ∷ denominator ∷ [])
@@ -223,9 +227,12 @@ editCode = unit 0xB7 []
 abbrev pub group : List ℕ → List ℕ
 group rest = unit 0xB0 (header 0x80) ++ rest
 
--- a header of this vertical size, a picture with these slices, and an ending
-abbrev pub sliced : ℕ → List ℕ → List ℕ
-sliced vertical slices = unit 0xB0 (body 15 (headerFields 720 vertical)) ++ picture ++ slices ++ sequenceEnd
+-- a header with this progressive and vertical size, a picture with these slices, and an ending or another group
+abbrev pub slicedGroup : ℕ → ℕ → List ℕ → List ℕ → List ℕ
+slicedGroup progressive vertical slices rest = unit 0xB0 (headerOfSizes progressive 720 vertical) ++ picture ++ slices ++ rest
+
+abbrev pub sliced : ℕ → ℕ → List ℕ → List ℕ
+sliced progressive vertical slices = slicedGroup progressive vertical slices sequenceEnd
 
 -- the number of units
 abbrev pub counted : List ℕ → Outcome (List ℕ)
@@ -405,10 +412,25 @@ headerLimits =
     ∷ headerThen (0x00 ∷ 0x80 ∷ []) gives no STUFFING
     ∷ headerThen [] gives no SHORT
     -- macroblock columns and rows
-    ∷ macroblocks 1 16383 gives done (1 ∷ 1024 ∷ [])
-    ∷ macroblocks 16 17 gives done (1 ∷ 2 ∷ [])
-    ∷ macroblocks 1920 1921 gives done (120 ∷ 121 ∷ [])
-    ∷ macroblocks 2801 2800 gives done (176 ∷ 175 ∷ [])
+    ∷ macroblocks 1 1 16383 gives done (1 ∷ 1024 ∷ [])
+    ∷ macroblocks 1 16 17 gives done (1 ∷ 2 ∷ [])
+    ∷ macroblocks 1 1920 1921 gives done (120 ∷ 121 ∷ [])
+    ∷ macroblocks 1 2801 2800 gives done (176 ∷ 175 ∷ [])
+    -- document 02, E4: rows of height 496, and beside the limits of both formulas
+    ∷ macroblocks 1 720 496 gives done (45 ∷ 31 ∷ [])
+    ∷ macroblocks 0 720 496 gives done (45 ∷ 32 ∷ [])
+    ∷ macroblocks 1 720 497 gives done (45 ∷ 32 ∷ [])
+    ∷ macroblocks 0 720 497 gives done (45 ∷ 32 ∷ [])
+    ∷ macroblocks 1 720 1 gives done (45 ∷ 1 ∷ [])
+    ∷ macroblocks 0 720 1 gives done (45 ∷ 2 ∷ [])
+    ∷ macroblocks 1 720 32 gives done (45 ∷ 2 ∷ [])
+    ∷ macroblocks 0 720 32 gives done (45 ∷ 2 ∷ [])
+    ∷ macroblocks 1 720 33 gives done (45 ∷ 3 ∷ [])
+    ∷ macroblocks 0 720 33 gives done (45 ∷ 4 ∷ [])
+    ∷ macroblocks 1 720 1080 gives done (45 ∷ 68 ∷ [])
+    ∷ macroblocks 0 720 1080 gives done (45 ∷ 68 ∷ [])
+    ∷ macroblocks 0 720 2800 gives done (45 ∷ 176 ∷ [])
+    ∷ macroblocks 0 720 16383 gives done (45 ∷ 1024 ∷ [])
     -- frame rates and display ratios
     ∷ fraction (frameRate 0) gives done []
     ∷ fraction (frameRate 1) gives done (24000 ∷ 1001 ∷ [])
@@ -516,15 +538,28 @@ grammarLimits =
     ∷ counted (group (picture ++ slice 2 ++ slice 1 ++ sequenceEnd)) gives refused VALUE (29 ∷ [])
     ∷ counted (group (picture ++ slice 2 ++ interPicture ++ slice 1 ++ sequenceEnd)) gives is 6
     -- less than the macroblock rows: 1, 2, and 175 where vertical size is 2800; where it is over, neither is tested
-    ∷ counted (sliced 16 (slice 0)) gives is 4
-    ∷ counted (sliced 16 (slice 1)) gives refused VALUE (24 ∷ [])
-    ∷ counted (sliced 17 (slice 1)) gives is 4
-    ∷ counted (sliced 17 (slice 2)) gives refused VALUE (24 ∷ [])
-    ∷ counted (sliced 2800 (slice 0xAE)) gives is 4
-    ∷ counted (sliced 2800 (slice 0xAF)) gives refused VALUE (24 ∷ [])
-    ∷ counted (sliced 2800 (slice 2 ++ slice 2)) gives refused VALUE (29 ∷ [])
-    ∷ counted (sliced 2801 (slice 0xAF)) gives is 4
-    ∷ counted (sliced 2801 (slice 2 ++ slice 2 ++ slice 1)) gives is 6
+    ∷ counted (sliced 1 16 (slice 0)) gives is 4
+    ∷ counted (sliced 1 16 (slice 1)) gives refused VALUE (24 ∷ [])
+    ∷ counted (sliced 1 17 (slice 1)) gives is 4
+    ∷ counted (sliced 1 17 (slice 2)) gives refused VALUE (24 ∷ [])
+    ∷ counted (sliced 1 2800 (slice 0xAE)) gives is 4
+    ∷ counted (sliced 1 2800 (slice 0xAF)) gives refused VALUE (24 ∷ [])
+    ∷ counted (sliced 1 2800 (slice 2 ++ slice 2)) gives refused VALUE (29 ∷ [])
+    ∷ counted (sliced 1 2801 (slice 0xAF)) gives is 4
+    ∷ counted (sliced 1 2801 (slice 2 ++ slice 2 ++ slice 1)) gives is 6
+    -- document 02, E4: 32 rows of height 496 where progressive is 0 and 31 where it is 1; 2, and 176 where vertical size is 2800
+    ∷ counted (sliced 0 496 (slice 0x1F)) gives is 4
+    ∷ counted (sliced 0 496 (slice 0x20)) gives refused VALUE (24 ∷ [])
+    ∷ counted (sliced 1 496 (slice 0x1E)) gives is 4
+    ∷ counted (sliced 1 496 (slice 0x1F)) gives refused VALUE (24 ∷ [])
+    ∷ counted (sliced 0 16 (slice 1)) gives is 4
+    ∷ counted (sliced 0 16 (slice 2)) gives refused VALUE (24 ∷ [])
+    ∷ counted (sliced 0 2800 (slice 0xAF)) gives is 4
+    ∷ counted (sliced 0 2800 (slice 0xAF ++ slice 0xAF)) gives refused VALUE (29 ∷ [])
+    ∷ counted (sliced 0 2801 (slice 0xAF ++ slice 0xAF)) gives is 5
+    -- each group by its own header
+    ∷ counted (slicedGroup 1 496 (slice 0) (sliced 0 496 (slice 0x1F))) gives is 7
+    ∷ counted (slicedGroup 0 496 (slice 0x1F) (sliced 1 496 (slice 0x1F))) gives refused VALUE (53 ∷ [])
     -- picture and slice bodies hold a nonzero byte; user data may be empty; an extension body has a byte
     ∷ counted (group (unit 0xB3 [] ++ slice 0 ++ sequenceEnd)) gives refused SHORT (19 ∷ [])
     ∷ counted (group (unit 0xB3 (0 ∷ []) ++ slice 0 ++ sequenceEnd)) gives refused SHORT (19 ∷ [])

@@ -19,6 +19,7 @@ use Rattle.layout.specs.declared.Layout.the-variants.{Header}
 use Rattle.bodies.specs.declared.Scope.the-variants as scope
 use Rattle.bodies.specs.declared.SequenceHeader.{SequenceHeader}
 use Rattle.macroblocks.specs.Macroblocks.{macroblockRows}
+use Rattle.macroblocks.proofs.RowLaws as rows
 use Rattle.startcode.specs.Prefix.{begins}
 use Rattle.startcode.specs.Kinds.{kindOf}
 use Rattle.startcode.specs.declared.Kind.{Kind}
@@ -255,7 +256,7 @@ vertical (a ∷ b ∷ c ∷ d ∷ []) header k e = absurd (k .1 .1 .1 .1)
 vertical (a ∷ b ∷ c ∷ d ∷ v ∷ rest) header k e = rw (fifth a b c d v header rest e) (k .1 .1 .1 .1 .0)
 
 pub some-row : (body : List ℕ) (header : SequenceHeader) → IsHeader body header → 1 ≤ macroblockRows header
-some-row body header k = let n = vertical (k .0) header (k .1 .allowed) (k .2) in omega arith
+some-row body header k = rows.some-row header (vertical (k .0) header (k .1 .allowed) (k .2))
 
 -- a header whose slices are not tested
 pub plainBody : List ℕ

@@ -17,10 +17,13 @@ pub fn macroblock_columns(h: SequenceHeader) -> u32
     ((long(h.horizontal) + 15) / 16) as u32
 }
 
-// Macroblock rows of a picture.
+// Macroblock rows of a picture. Where progressive is 0 it may be two fields, each of whole rows.
 pub fn macroblock_rows(h: SequenceHeader) -> u32
     ensures { λ r. ⌜ r ≡ macroblockRows h ⌝ }
 {
+    if h.progressive == 0 {
+        return (2 * ((long(h.vertical) + 31) / 32)) as u32;
+    }
     ((long(h.vertical) + 15) / 16) as u32
 }
 

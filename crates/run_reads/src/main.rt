@@ -134,11 +134,11 @@ fn prefixes() {
 
 // ── macroblocks ──
 
-fn macroblock(horizontal: u32, vertical: u32) {
+fn macroblock(progressive: u32, horizontal: u32, vertical: u32) {
     let h = SequenceHeader {
         profile: 0,
         level: 0,
-        progressive: 0,
+        progressive,
         horizontal,
         vertical,
         chroma: 1,
@@ -150,6 +150,7 @@ fn macroblock(horizontal: u32, vertical: u32) {
         buffer: 0,
     };
     say(b"macroblocks");
+    small(progressive);
     small(horizontal);
     small(vertical);
     small(macroblocks::macroblock_columns(h));
@@ -158,13 +159,29 @@ fn macroblock(horizontal: u32, vertical: u32) {
     end();
 }
 
-// Whole division at its edges; a record that no body gives; the greatest numbers.
+// Whole division at its edges, progressive and not; records that no body gives, which are progressive from 1 on; the greatest
+// numbers.
 fn all_macroblocks() {
-    macroblock(1, 16);
-    macroblock(17, 1080);
-    macroblock(16383, 2800);
-    macroblock(0, 2801);
-    macroblock(4294967295, 4294967280);
+    macroblock(1, 1, 16);
+    macroblock(0, 1, 16);
+    macroblock(1, 17, 17);
+    macroblock(0, 17, 17);
+    macroblock(1, 720, 32);
+    macroblock(0, 720, 32);
+    macroblock(1, 720, 33);
+    macroblock(0, 720, 33);
+    macroblock(1, 720, 496);
+    macroblock(0, 720, 496);
+    macroblock(1, 1920, 1080);
+    macroblock(0, 1920, 1080);
+    macroblock(1, 16383, 2800);
+    macroblock(0, 16383, 2800);
+    macroblock(1, 0, 2801);
+    macroblock(0, 0, 0);
+    macroblock(2, 0, 496);
+    macroblock(4294967295, 4294967295, 4294967280);
+    macroblock(0, 4294967295, 4294967280);
+    macroblock(0, 4294967295, 4294967295);
 }
 
 // ── rows ──

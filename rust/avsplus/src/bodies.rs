@@ -70,9 +70,9 @@ pub struct SequenceHeader {
     pub low_delay: bool,
     /// Buffer size as the stream has it, in the standard's unit.
     pub buffer_size: u32,
-    /// Macroblocks across.
+    /// Macroblocks across: (horizontal size + 15) / 16, whole division.
     pub macroblock_columns: u32,
-    /// Macroblocks down.
+    /// Macroblocks down: 2 * ((vertical size + 31) / 32), or (vertical size + 15) / 16 where `progressive` is true.
     pub macroblock_rows: u32,
     /// Frames a second, by the frame rate code.
     pub frame_rate: Ratio,

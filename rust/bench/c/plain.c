@@ -329,7 +329,7 @@ static uint32_t header_step(state *s, const uint8_t *body, size_t length)
     s->where = HEAD;
     s->display = false;
     s->tested = h.vertical <= 2800;
-    s->rows = (h.vertical + 15) / 16;
+    s->rows = h.progressive ? (h.vertical + 15) / 16 : 2 * ((h.vertical + 31) / 32);
     return DONE;
 }
 

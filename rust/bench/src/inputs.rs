@@ -88,6 +88,20 @@ fn push_slices(stream: &mut Vec<u8>, random: &mut Random, shape: &Shape) -> bool
     false
 }
 
+/// A group of one slice, of so many lines, and an ending: good where the slice is in its rows.
+pub fn one_slice(progressive: bool, lines: u32, slice: u8) -> Vec<u8> {
+    let mut header = HEADER;
+    header[2] |= u8::from(progressive) << 7;
+    header[4] = (lines >> 5) as u8;
+    header[5] = header[5] & 7 | (lines << 3) as u8;
+    let mut stream = Vec::new();
+    push_unit(&mut stream, 0xB0, &header);
+    push_unit(&mut stream, 0xB3, &[0x80]);
+    push_unit(&mut stream, slice, &[0x80]);
+    push_unit(&mut stream, 0xB1, &[]);
+    stream
+}
+
 /// What stands between a head's display extension and its picture.
 const HEAD_ITEMS: usize = 24;
 

@@ -49,7 +49,7 @@ fn stuffed(end: &[u8]) -> Result<(), u32> {
     Err(status::STUFFING)
 }
 
-// Records as a caller would want them, though filing asks for the vertical size alone.
+// Records as a caller would want them, though filing asks for progressive and the vertical size alone.
 #[allow(dead_code)]
 struct Header {
     profile: u32,
@@ -211,10 +211,16 @@ enum State {
 }
 
 fn header_step(body: &[u8]) -> Result<State, u32> {
-    let vertical = read_header(body)?.vertical;
+    let Header {
+        progressive, vertical, ..
+    } = read_header(body)?;
+    let rows = match progressive {
+        0 => 2 * ((vertical + 31) / 32),
+        _ => (vertical + 15) / 16,
+    };
     let rule = SliceRule {
         tested: vertical <= 2800,
-        rows: (vertical + 15) / 16,
+        rows,
     };
     Ok(State::Head(rule, false))
 }

@@ -59,6 +59,7 @@ pub fn heads_alone(row: &'static str, scale: Scale) -> Measured {
 fn measure_filing(row: &'static str, scale: Scale, stream: &[u8], small: &[u8]) -> Measured {
     let words = check_filing(stream);
     check_refusals(small);
+    check_last_slices();
     let rivals = FILE.iter().map(|&(name, file)| {
         let mut rows = vec![UNTOUCHED; words];
         let run = Box::new(move || file(stream, &mut rows).count as u64);
@@ -101,6 +102,19 @@ fn check_refusals(good: &[u8]) {
                 "{}: otherwise on a spoiled recording",
                 name
             );
+        }
+    }
+}
+
+/// Rivals count macroblock rows as the library does, progressive and not.
+fn check_last_slices() {
+    for lines in [1, 16, 17, 32, 33, 496, 497, 1080, 2784, 2785, 2800, 2801] {
+        for (progressive, slice) in (0..0xB0).flat_map(|slice| [(false, slice), (true, slice)]) {
+            let stream = inputs::one_slice(progressive, lines, slice);
+            let expected = filed(library::file, &stream, 12);
+            for (name, file) in FILE {
+                assert!(filed(file, &stream, 12) == expected, "{}: other macroblock rows", name);
+            }
         }
     }
 }

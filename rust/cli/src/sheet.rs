@@ -149,13 +149,22 @@ fn header_text(output: &mut dyn Write, unit: usize, header: &SequenceHeader) -> 
     table.fields(&fields)?;
     let parts = sum(&fields, &[("bit rate high", " x 262144"), ("bit rate low", "")]);
     table.worked_out("bit rate", header.bit_rate, parts)?;
-    let sixteenth = |size: u32| format!("({} + 15) / 16", size);
-    let columns = sixteenth(header.horizontal_size);
+    let columns = format!("({} + 15) / 16", header.horizontal_size);
     table.worked_out("macroblock columns", header.macroblock_columns, columns)?;
-    table.worked_out("macroblock rows", header.macroblock_rows, sixteenth(header.vertical_size))?;
+    table.worked_out("macroblock rows", header.macroblock_rows, rows_text(header))?;
     let code = format!("frame rate code {}", header.frame_rate_code);
     table.worked_out("frame rate", header.frame_rate, code)?;
     table.worked_out("display ratio", header.display_ratio, format!("aspect {}", header.aspect))
+}
+
+/// How macroblock rows follow from progressive and vertical size.
+fn rows_text(header: &SequenceHeader) -> String {
+    let lines = header.vertical_size;
+    if header.progressive {
+        format!("({} + 15) / 16, as progressive is 1", lines)
+    } else {
+        format!("2 x (({} + 31) / 32), as progressive is 0", lines)
+    }
 }
 
 fn display_text(output: &mut dyn Write, unit: usize, display: &DisplayExtension) -> Written {

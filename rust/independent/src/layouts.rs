@@ -209,17 +209,22 @@ pub fn extension(body: &[u8], in_head: bool) -> Result<Extension, u32> {
     }
 }
 
-/// (size + 15) / 16; in 64 bits, since a record made by hand may hold any number.
-fn macroblocks(size: u32) -> u32 {
-    ((u64::from(size) + 15) / 16) as u32
+/// How many parts of so many samples a size has, the last of them whole or not; in 64 bits, since a record made by hand may
+/// hold any number.
+fn parts(size: u32, samples: u64) -> u32 {
+    ((u64::from(size) + samples - 1) / samples) as u32
 }
 
 pub fn macroblock_columns(h: &Header) -> u32 {
-    macroblocks(h.horizontal)
+    parts(h.horizontal, 16)
 }
 
+/// When progressive is 0, 2 x ((vertical size + 31) / 32); otherwise (vertical size + 15) / 16.
 pub fn macroblock_rows(h: &Header) -> u32 {
-    macroblocks(h.vertical)
+    match h.progressive {
+        0 => 2 * parts(h.vertical, 32),
+        _ => parts(h.vertical, 16),
+    }
 }
 
 /// Frame rate codes 1 to 8, as numerator and denominator.

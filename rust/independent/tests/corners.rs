@@ -43,8 +43,9 @@ fn outcome(units: &[(u8, &[u8])]) -> (u32, usize) {
     }
 }
 
-fn header_with(height: u32) -> [u8; 15] {
+fn header_with(progressive: u8, height: u32) -> [u8; 15] {
     let mut body = H;
+    body[2] = (body[2] & 0x7F) | progressive << 7;
     body[3] = (body[3] & 0xFE) | (height >> 13) as u8;
     body[4] = (height >> 5) as u8;
     body[5] = (body[5] & 0x07) | ((height << 3) as u8);
@@ -135,8 +136,19 @@ fn overlap() {
 fn slices() {
     let b: (u8, &[u8]) = (0xB6, &[1]);
     let good: &[u8] = &[1];
-    for (height, rows) in [(1, 1), (16, 1), (17, 2), (2784, 174), (2785, 175), (2800, 175)] {
-        let body = header_with(height);
+    // Heights with their rows, progressive and interlaced.
+    let heights = [
+        (1, 1, 2),
+        (16, 1, 2),
+        (17, 2, 2),
+        (32, 2, 2),
+        (33, 3, 4),
+        (496, 31, 32),
+        (497, 32, 32),
+        (2784, 174, 174),
+    ];
+    for (height, progressive, rows) in heights.iter().flat_map(|&(height, p, i)| [(height, 1, p), (height, 0, i)]) {
+        let body = header_with(progressive, height);
         let head: (u8, &[u8]) = (0xB0, &body);
         assert_eq!(outcome(&[head, PICTURE, (rows - 1, good), END]), (0, 4));
         assert_eq!(outcome(&[head, PICTURE, (rows, good), END]), (8, 2));
@@ -144,12 +156,44 @@ fn slices() {
         assert_eq!(outcome(&[head, PICTURE, SLICE, (rows, &[0]), END]), (6, 3));
         assert_eq!(outcome(&[head, PICTURE, SLICE, b, SLICE, END]), (0, 6));
     }
-    let tall = header_with(2801);
+    let tall = header_with(0, 2801);
     let units: [(u8, &[u8]); 6] = [(0xB0, &tall), PICTURE, (0xAF, good), (3, good), (3, good), END];
     assert_eq!(outcome(&units), (0, 6));
-    let small = header_with(16);
+    let small = header_with(1, 16);
     let two: [(u8, &[u8]); 7] = [(0xB0, &tall), PICTURE, (9, good), (0xB0, &small), PICTURE, (1, good), END];
     assert_eq!(outcome(&two), (8, 5));
+}
+
+/// At 2800 lines all slice codes are in the rows of an interlaced recording.
+#[test]
+fn slices_of_2800_lines() {
+    let good: &[u8] = &[1];
+    let (interlaced, progressive) = (header_with(0, 2800), header_with(1, 2800));
+    assert_eq!(outcome(&[(0xB0, &interlaced), PICTURE, (0xAF, good), END]), (0, 4));
+    assert_eq!(
+        outcome(&[(0xB0, &interlaced), PICTURE, (0xAF, good), (0xAF, good), END]),
+        (8, 3)
+    );
+    assert_eq!(outcome(&[(0xB0, &progressive), PICTURE, (0xAE, good), END]), (0, 4));
+    assert_eq!(outcome(&[(0xB0, &progressive), PICTURE, (0xAF, good), END]), (8, 2));
+}
+
+/// Each group's rows are by its own header.
+#[test]
+fn slices_of_groups_that_differ() {
+    let last: (u8, &[u8]) = (31, &[1]);
+    let bodies = [header_with(0, 496), header_with(1, 496)];
+    let interlaced: (u8, &[u8]) = (0xB0, &bodies[0]);
+    let progressive: (u8, &[u8]) = (0xB0, &bodies[1]);
+    assert_eq!(
+        outcome(&[progressive, PICTURE, SLICE, interlaced, PICTURE, last, END]),
+        (0, 7)
+    );
+    assert_eq!(outcome(&[interlaced, PICTURE, last, progressive, PICTURE, last, END]), (8, 5));
+    assert_eq!(
+        outcome(&[interlaced, PICTURE, last, progressive, PICTURE, SLICE, END]),
+        (0, 7)
+    );
 }
 
 #[test]
@@ -356,6 +400,8 @@ fn tables() {
     h.horizontal = u32::MAX;
     h.vertical = 0;
     assert_eq!((macroblock_columns(&h), macroblock_rows(&h)), (268_435_456, 0));
+    h.vertical = u32::MAX;
+    assert_eq!(macroblock_rows(&h), 268_435_456);
     assert_eq!(
         (NAMES[0], NAMES[1], NAMES[10], NAMES[16]),
         ("FILED", "NO CODE", "TWICE", "NO ROW")

@@ -55,6 +55,48 @@ fn every_filing_refusal_is_met() {
     assert!(met[12..].iter().all(|&count| count == 0), "{met:?}");
 }
 
+/// Of each group of a filed stream: progressive, vertical size, and whether a slice is in its last row.
+fn groups(stream: &[u8]) -> Vec<(u32, u32, bool)> {
+    let mut rows = vec![0; 3 * stream.len()];
+    let units = file(stream, &mut rows).unwrap_or(0) as usize;
+    let mut groups: Vec<(Header, bool)> = Vec::new();
+    for row in rows[..3 * units].chunks_exact(3) {
+        if row[0] == 0xB0 {
+            let body = row[1] as usize + 4;
+            groups.push((header(&stream[body..body + row[2] as usize]).unwrap(), false));
+        } else if let Some((header, last)) = groups.last_mut() {
+            *last |= row[0] + 1 == macroblock_rows(header);
+        }
+    }
+    groups.iter().map(|(h, last)| (h.progressive, h.vertical, *last)).collect()
+}
+
+/// Interlaced and progressive groups, where the two counts of rows differ and where they do not, with slices in their last row.
+#[test]
+fn both_counts_of_rows_are_met() {
+    let mut random = Random::new(11);
+    let mut met = [[0; 2]; 2];
+    let mut edges = [[0; 5]; 2];
+    for _ in 0..20_000 {
+        for (progressive, vertical, last) in groups(&stream(&mut random)) {
+            let differ = matches!(vertical % 32, 1..=16);
+            let p = progressive as usize;
+            met[p][usize::from(differ)] += u32::from(last && vertical <= 2800);
+            let at = [
+                vertical % 16 == 0,
+                vertical % 16 == 1,
+                vertical % 32 == 0,
+                vertical % 32 == 1,
+                vertical == 2800,
+            ];
+            (0..5).for_each(|i| edges[p][i] += u32::from(at[i] && vertical <= 2800));
+        }
+    }
+    println!("last rows {met:?}, heights 16k, 16k + 1, 32k, 32k + 1 and 2800 {edges:?}");
+    assert!(met.iter().flatten().all(|&count| count >= 1000), "{met:?}");
+    assert!(edges.iter().flatten().all(|&count| count >= 200), "{edges:?}");
+}
+
 /// How often each number comes up in 20,000 tries.
 fn tally(mut try_once: impl FnMut() -> u32) -> [u32; 17] {
     let mut met = [0; 17];

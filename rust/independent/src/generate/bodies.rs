@@ -122,27 +122,55 @@ fn any(random: &mut Random, width: usize) -> u64 {
     }
 }
 
-/// Heights small enough for the slice rule to bite, around 2800, above it, and any.
-pub(super) fn height(random: &mut Random) -> u64 {
-    match random.below(8) {
+/// Heights small enough for the slice rule to bite, where a row or a pair of rows is full and a line more, around 2800, above
+/// it, and any.
+fn height(random: &mut Random) -> u64 {
+    match random.below(10) {
         0 => random.between(1, 16),
         1 | 2 => random.between(1, 80),
-        3 => random.pick(&[480, 576, 720, 1080, 1088, 2160]),
-        4 => random.between(2780, 2820),
-        5 => random.pick(&[2784, 2785, 2799, 2800, 2801, 2816, 16383]),
-        6 => random.between(2801, 16383),
+        3 => random.pick(&[480, 496, 576, 720, 1080, 1088, 2160]),
+        4 => 16 * random.between(1, 175) + random.below(2),
+        5 => 32 * random.between(1, 87) + random.below(2),
+        6 => random.between(2780, 2820),
+        7 => random.pick(&[2784, 2785, 2799, 2800, 2801, 2816, 16383]),
+        8 => random.between(2801, 16383),
         _ => random.between(1, 2800),
     }
 }
 
-pub(super) fn good_header(random: &mut Random, vertical: u64) -> Vec<u8> {
+/// What a sequence header says that a group's slices are tested by.
+#[derive(Clone, Copy)]
+pub(super) struct Scan {
+    pub progressive: u64,
+    pub vertical: u64,
+}
+
+impl Scan {
+    pub(super) fn any(random: &mut Random) -> Self {
+        Scan {
+            progressive: random.below(2),
+            vertical: height(random),
+        }
+    }
+
+    /// Macroblock rows, in other words than the decoder's: as many as hold the lines, an even number where progressive is 0.
+    pub(super) fn rows(self) -> u64 {
+        let rows = (self.vertical + 15) / 16;
+        match self.progressive {
+            0 => rows + rows % 2,
+            _ => rows,
+        }
+    }
+}
+
+pub(super) fn good_header(random: &mut Random, scan: Scan) -> Vec<u8> {
     until_clean(random, |random| {
         let mut writer = Writer::new();
         writer.put(any(random, 8), 8); // profile
         writer.put(any(random, 8), 8); // level
-        writer.put(random.below(2), 1); // progressive
+        writer.put(scan.progressive, 1);
         writer.put(any(random, 14).max(1), 14); // horizontal
-        writer.put(vertical, 14);
+        writer.put(scan.vertical, 14);
         writer.put(random.between(1, 2), 2); // chroma
         writer.put(1, 3); // precision
         writer.put(random.between(1, 4), 4); // aspect
@@ -290,8 +318,8 @@ pub(super) fn extension_with_layout(random: &mut Random) -> (Vec<u8>, Option<&'s
 
 /// A sequence header body, good about half the time.
 pub fn header_body(random: &mut Random) -> Vec<u8> {
-    let vertical = height(random);
-    let mut body = good_header(random, vertical);
+    let scan = Scan::any(random);
+    let mut body = good_header(random, scan);
     if random.once_in(2) {
         spoil(random, &HEADER, &mut body);
     }

@@ -1,8 +1,8 @@
 //! Damaged streams: a good one with one to three damages, so that every filing refusal is met.
 
 use super::bodies::{
-    clear_marker, filler, good_copyright, good_display, good_header, height, opaque, shorten, spoil, spoil_stuffing,
-    spoil_value, Layout, COLOUR_DISPLAY, COPYRIGHT, DISPLAY, HEADER,
+    clear_marker, filler, good_copyright, good_display, good_header, opaque, shorten, spoil, spoil_stuffing, spoil_value,
+    Layout, Scan, COLOUR_DISPLAY, COPYRIGHT, DISPLAY, HEADER,
 };
 use super::random::Random;
 use super::recording::{opaque_body, pieces, user_data, write, Piece};
@@ -39,10 +39,10 @@ fn laid_out_extension(random: &mut Random, rows: u64) -> Piece {
 
 /// Any unit at all, good for some place of the grammar.
 fn any_piece(random: &mut Random) -> Piece {
-    let vertical = height(random);
-    let rows = (vertical + 15) / 16;
+    let scan = Scan::any(random);
+    let rows = scan.rows();
     match random.below(8) {
-        0 => Piece::new(0xB0, good_header(random, vertical), Some(&HEADER), rows),
+        0 => Piece::new(0xB0, good_header(random, scan), Some(&HEADER), rows),
         1 => Piece::new(0xB2, user_data(random), None, rows),
         2 => laid_out_extension(random, rows),
         3 => Piece::new(0xB5, opaque(random, &[0, 2, 4, 9]), None, rows),
@@ -272,8 +272,8 @@ fn damage_bytes(random: &mut Random, bytes: &mut Vec<u8>) {
 fn small_alphabet(random: &mut Random) -> Vec<u8> {
     let mut bytes = if random.once_in(3) { Vec::new() } else { vec![0, 0, 1] };
     if random.once_in(2) {
-        let vertical = height(random);
-        bytes = write(&[Piece::new(0xB0, good_header(random, vertical), None, 0)]);
+        let scan = Scan::any(random);
+        bytes = write(&[Piece::new(0xB0, good_header(random, scan), None, 0)]);
     }
     let length = random.pick(&[3, 10, 40, 200]);
     (0..random.below(length)).for_each(|_| bytes.push(random.pick(&ALPHABET)));

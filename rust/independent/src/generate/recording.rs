@@ -1,8 +1,8 @@
 //! Good streams of very varied make, as units and as bytes.
 
 use super::bodies::{
-    extension_with_layout, filler, good_copyright, good_display, good_header, height, opaque, without_start_code, zeros,
-    Layout, COPYRIGHT, HEADER,
+    extension_with_layout, filler, good_copyright, good_display, good_header, opaque, without_start_code, zeros, Layout, Scan,
+    COPYRIGHT, HEADER,
 };
 use super::random::Random;
 
@@ -100,11 +100,11 @@ fn picture_items(random: &mut Random, rows: u64) -> Vec<Piece> {
 }
 
 /// Slice codes of a picture: rising and below the rows, or anything over height 2800.
-fn slice_codes(random: &mut Random, vertical: u64) -> Vec<u8> {
-    if vertical > 2800 {
+fn slice_codes(random: &mut Random, scan: Scan) -> Vec<u8> {
+    if scan.vertical > 2800 {
         return (0..random.between(1, 6)).map(|_| random.below(0xB0) as u8).collect();
     }
-    let rows = (vertical + 15) / 16;
+    let rows = scan.rows();
     let step = random.pick(&[1, 1, 3, 20, 90]);
     let first_below = if random.once_in(2) { 1 } else { rows };
     let mut code = random.below(first_below);
@@ -121,25 +121,25 @@ fn slice_codes(random: &mut Random, vertical: u64) -> Vec<u8> {
     codes
 }
 
-fn picture(random: &mut Random, code: u8, vertical: u64) -> Vec<Piece> {
-    let rows = (vertical + 15) / 16;
+fn picture(random: &mut Random, code: u8, scan: Scan) -> Vec<Piece> {
+    let rows = scan.rows();
     let mut pieces = vec![Piece::plain(code, opaque_body(random, code), rows)];
     pieces.extend(picture_items(random, rows));
-    for code in slice_codes(random, vertical) {
+    for code in slice_codes(random, scan) {
         pieces.push(Piece::plain(code, opaque_body(random, code), rows));
     }
     pieces
 }
 
 fn group(random: &mut Random) -> Vec<Piece> {
-    let vertical = height(random);
-    let rows = (vertical + 15) / 16;
-    let mut pieces = vec![Piece::new(0xB0, good_header(random, vertical), Some(&HEADER), rows)];
+    let scan = Scan::any(random);
+    let rows = scan.rows();
+    let mut pieces = vec![Piece::new(0xB0, good_header(random, scan), Some(&HEADER), rows)];
     pieces.extend(head_items(random, rows));
-    pieces.extend(picture(random, 0xB3, vertical));
+    pieces.extend(picture(random, 0xB3, scan));
     for _ in 0..random.pick(&[0, 0, 1, 2]) {
         let code = random.pick(&[0xB3, 0xB6, 0xB6]);
-        pieces.extend(picture(random, code, vertical));
+        pieces.extend(picture(random, code, scan));
     }
     pieces
 }
