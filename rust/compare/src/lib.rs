@@ -10,6 +10,7 @@ mod library;
 mod payloads;
 mod reference;
 mod report;
+mod slices;
 mod streams;
 mod wrapped;
 
@@ -79,8 +80,9 @@ pub fn run(plan: &Plan, decoders: Decoders) -> Report {
 /// What does not depend on the seed.
 fn exhaustive(comparison: &mut Comparison, small: bool) {
     bodies::codes(comparison);
-    let (start_codes, escapes, step) = if small { (4, 3, 251) } else { (8, 7, 1) };
+    let (start_codes, escapes, step, heights) = if small { (4, 3, 251, 97) } else { (8, 7, 1, 1) };
     payloads::all_start_codes(comparison, start_codes);
     payloads::all_escapes(comparison, escapes);
     payloads::two_byte_golomb(comparison, step);
+    slices::of_all_heights(comparison, heights);
 }

@@ -11,11 +11,11 @@ const LONGEST: usize = AVSPLUS_LONGEST_STREAM as usize;
 /// One stream in so many is a long one made of several; prime, so that each wrapper has its turn.
 const JOINED_SHARE: u64 = 199;
 /// The sequence header of 1920 by 1080, up to the body of an I picture and the code of what follows it.
-const BEGINNING: [u8; 28] = [
+pub(crate) const BEGINNING: [u8; 28] = [
     0, 0, 1, 0xB0, 0x48, 0x40, 0x0F, 0x00, 0x21, 0xC2, 0x4C, 0xC4, 0xE2, 0x08, 0x00, 0x20, 0x02, 0x00, 0x80, 0, 0, 1, 0xB3,
     0x80, 0, 0, 1, 0x00,
 ];
-const ENDING: [u8; 4] = [0, 0, 1, 0xB1];
+pub(crate) const ENDING: [u8; 4] = [0, 0, 1, 0xB1];
 
 /// Valid and damaged streams in turn, now and then many groups long.
 pub(crate) fn generated(comparison: &mut Comparison, random: &mut Random, count: u64) {
@@ -63,7 +63,7 @@ fn start_codes(stream: &[u8]) -> usize {
     stream.windows(3).filter(|three| *three == [0, 0, 1]).count()
 }
 
-fn file(comparison: &mut Comparison, stream: &[u8], room: usize) -> Vec<u32> {
+pub(crate) fn file(comparison: &mut Comparison, stream: &[u8], room: usize) -> Vec<u32> {
     let with = || format!("{} words lent", room);
     let filed = comparison.ask(Question::File, &with, |decoder| {
         lend(room, |rows| (decoder.file)(stream, rows))
@@ -136,7 +136,7 @@ fn group(comparison: &mut Comparison, stream: &[u8], g: usize, rooms: &[usize]) 
     })
 }
 
-fn check(comparison: &mut Comparison, stream: &[u8]) {
+pub(crate) fn check(comparison: &mut Comparison, stream: &[u8]) {
     comparison.ask(Question::Check, &alone, |decoder| (decoder.check)(stream));
 }
 

@@ -79,6 +79,43 @@ fn other_offset(stream: &[u8], rows: &mut [u32]) -> Answer {
     Answer { offset, ..answer }
 }
 
+/// The recording with a progressive of our own in each header, by that of the first and its own.
+fn with_progressive(stream: &[u8], of: impl Fn(u8, u8) -> u8) -> Vec<u8> {
+    let is_header = |unit: &[u8]| unit.starts_with(&[0, 0, 1, 0xB0]) && !unit[1..].windows(3).any(|three| three == [0, 0, 1]);
+    let headers = stream.windows(19).enumerate().filter(|(_, unit)| is_header(unit));
+    let places: Vec<usize> = headers.map(|(i, _)| i + 6).collect();
+    let mut bytes = stream.to_vec();
+    for &place in &places {
+        let (first, own) = (stream[places[0]] & 0x80, stream[place] & 0x80);
+        bytes[place] = stream[place] & 0x7F | of(first, own);
+    }
+    bytes
+}
+
+/// Interlaced recordings have the rows of progressive ones.
+fn rows_of_progressive(stream: &[u8], rows: &mut [u32]) -> Answer {
+    (LIBRARY.file)(&with_progressive(stream, |_, _| 0x80), rows)
+}
+
+/// Either has the rows of the other.
+fn rows_swapped(stream: &[u8], rows: &mut [u32]) -> Answer {
+    (LIBRARY.file)(&with_progressive(stream, |_, own| 0x80 - own), rows)
+}
+
+/// The first group's progressive holds for all groups.
+fn rows_by_first_group(stream: &[u8], rows: &mut [u32]) -> Answer {
+    (LIBRARY.file)(&with_progressive(stream, |first, _| first), rows)
+}
+
+/// The number of rows of every header is that of a progressive one.
+fn number_of_progressive(body: &[u8], numbers: &mut [u64]) -> Answer {
+    let answer = (LIBRARY.sequence_header)(body, numbers);
+    if answer.count > 0 {
+        numbers[13] = (numbers[4] + 15) / 16;
+    }
+    answer
+}
+
 /// A body that ends exactly at the stream's end is no row.
 fn row_before_end(stream: &[u8], rows: &[u32], i: usize) -> bool {
     let Part { offset, length } = (LIBRARY.row_body)(stream, rows, i);
@@ -193,13 +230,17 @@ fn last_number(answer: Answer, numbers: &mut [u64]) -> Answer {
 type Slip = (&'static str, fn(&mut Decoder));
 
 /// At least one for every question.
-const SLIPS: [Slip; 29] = [
+const SLIPS: [Slip; 33] = [
     ("check that is full", |d| d.check = check_that_is_full),
     ("last row", |d| d.file = last_row),
     ("word after the rows", |d| d.file = word_after_rows),
     ("refusal that writes", |d| d.file = refusal_writes),
     ("other refusal", |d| d.file = other_refusal),
     ("other offset", |d| d.file = other_offset),
+    ("interlaced rows as progressive", |d| d.file = rows_of_progressive),
+    ("rows swapped", |d| d.file = rows_swapped),
+    ("rows by the first group", |d| d.file = rows_by_first_group),
+    ("number of rows as progressive", |d| d.sequence_header = number_of_progressive),
     ("row before the end", |d| d.row_exists = row_before_end),
     ("body with its code", |d| d.row_body = body_with_code),
     ("group", |d| d.group = |s, g, n| last_number((LIBRARY.group)(s, g, n), n)),

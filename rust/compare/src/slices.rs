@@ -1,0 +1,75 @@
+//! Macroblock rows: of every height, and the slices in and after the last row, progressive and not.
+
+use avsplus_sys::{AVSPLUS_HEADER_NUMBERS, AVSPLUS_ROW_WORDS};
+
+use crate::comparison::{alone, Comparison};
+use crate::report::Question;
+use crate::streams::{check, file, BEGINNING, ENDING};
+
+/// The most that 14 bits hold.
+const TALLEST: u32 = 16383;
+/// Slices are tested up to 2800 lines, and not in the heights from there to this one.
+const PAST_TESTED: u32 = 2840;
+const SLICES: u32 = 0xB0;
+
+/// The unit of a sequence header: that of 1920 by 1080 with another progressive and another vertical size.
+fn header(progressive: bool, vertical: u32) -> [u8; 19] {
+    let mut unit = [0; 19];
+    unit.copy_from_slice(&BEGINNING[..19]);
+    unit[6] = unit[6] & 0x7F | u8::from(progressive) << 7;
+    unit[7] = unit[7] & 0xFE | (vertical >> 13) as u8;
+    unit[8] = (vertical >> 5) as u8;
+    unit[9] = unit[9] & 0x07 | (vertical << 3) as u8;
+    unit
+}
+
+/// A group of one picture with one slice.
+fn group(progressive: bool, vertical: u32, code: u8) -> Vec<u8> {
+    let mut bytes = header(progressive, vertical).to_vec();
+    bytes.extend([0, 0, 1, 0xB3, 0x80, 0, 0, 1, code, 0x80]);
+    bytes
+}
+
+/// Slice codes from below the last row on to past it, by either formula.
+fn codes_around(vertical: u32) -> impl Iterator<Item = u8> {
+    let sixteenth = vertical / 16;
+    (sixteenth.saturating_sub(1)..=sixteenth + 2)
+        .filter(|&code| code < SLICES)
+        .map(|code| code as u8)
+}
+
+/// Heights `step` apart: the numbers of a header with each, and filing with its last slices.
+pub(crate) fn of_all_heights(comparison: &mut Comparison, step: usize) {
+    for progressive in [false, true] {
+        for vertical in (0..=TALLEST).step_by(step) {
+            numbers(comparison, progressive, vertical);
+        }
+        for vertical in (1..=PAST_TESTED).step_by(step) {
+            codes_around(vertical).for_each(|code| slice(comparison, progressive, vertical, code));
+        }
+    }
+}
+
+fn numbers(comparison: &mut Comparison, progressive: bool, vertical: u32) {
+    let body = header(progressive, vertical)[4..].to_vec();
+    comparison.input(body, |comparison, body| {
+        comparison.numbers(
+            Question::SequenceHeader,
+            &alone,
+            &[AVSPLUS_HEADER_NUMBERS],
+            |decoder, lent| (decoder.sequence_header)(body, lent),
+        );
+    });
+}
+
+/// A slice in the first group, and in a second one after a group that is progressive where it is not.
+fn slice(comparison: &mut Comparison, progressive: bool, vertical: u32, code: u8) {
+    let tested = group(progressive, vertical, code);
+    for before in [Vec::new(), group(!progressive, vertical, 0)] {
+        let bytes = [&before[..], &tested, &ENDING].concat();
+        comparison.input(bytes, |comparison, stream| {
+            check(comparison, stream);
+            file(comparison, stream, 7 * AVSPLUS_ROW_WORDS);
+        });
+    }
+}
