@@ -1,5 +1,5 @@
-/* The examples of document 01 through the C header, groups and extensions with each of their counts, and null pointers with length 0:
- * each line prints what it is, and exit 1 where one differs. */
+/* The examples of document 01 through the C header, groups and extensions with each of their counts, macroblock rows progressive and
+ * not, and null pointers with length 0: each line prints what it is, and exit 1 where one differs. */
 #include <stdio.h>
 #include <string.h>
 
@@ -126,6 +126,31 @@ static void groups(void) {
     expect("a refused stream's group", is(avsplus_group(stream, 29, 0, NULL, 0), 11, 29, 0));
 }
 
+/* The stream with 496 lines, progressive or not, and its slice in this row. */
+static void of_496_lines(uint8_t out[sizeof stream], bool progressive, uint8_t row) {
+    memcpy(out, stream, sizeof stream);
+    out[6] |= progressive ? 0x80 : 0;
+    out[8] = 496 >> 5;
+    out[9] = (496 & 31) << 3 | (stream[9] & 7);
+    out[27] = row;
+}
+
+static void macroblock_rows(void) {
+    uint8_t changed[sizeof stream];
+    uint64_t n[ROOM];
+    of_496_lines(changed, false, 31);
+    expect("32 rows of 496 lines", is(avsplus_group(changed, sizeof changed, 0, n, ROOM), 0, 0, 14) && n[AVSPLUS_HEADER_VERTICAL_SIZE] == 496 &&
+                                       n[AVSPLUS_HEADER_PROGRESSIVE] == 0 && n[AVSPLUS_HEADER_MACROBLOCK_ROWS] == 32);
+    expect("its slice 31 is filed", is(avsplus_check(changed, sizeof changed), 0, 0, 4));
+    of_496_lines(changed, false, 32);
+    expect("its slice 32 is VALUE", is(avsplus_check(changed, sizeof changed), 8, 24, 0));
+    of_496_lines(changed, true, 30);
+    expect("31 rows where progressive is 1", is(avsplus_group(changed, sizeof changed, 0, n, ROOM), 0, 0, 14) && n[AVSPLUS_HEADER_VERTICAL_SIZE] == 496 &&
+                                                 n[AVSPLUS_HEADER_PROGRESSIVE] == 1 && n[AVSPLUS_HEADER_MACROBLOCK_ROWS] == 31);
+    of_496_lines(changed, true, 31);
+    expect("its slice 31 is VALUE", is(avsplus_check(changed, sizeof changed), 8, 24, 0));
+}
+
 static void extensions(void) {
     static const uint8_t display[6] = {DISPLAY}, coloured[9] = {COLOURED}, opaque[2] = {0xB5, 0x00};
     static const uint8_t copyright[12] = {0x48, 0x3C, 0x04, 0x04, 0x8D, 0x2A, 0xCF, 0x13, 0x6B, 0xCD, 0xEF, 0x80};
@@ -199,6 +224,7 @@ int main(void) {
     filing();
     checking();
     groups();
+    macroblock_rows();
     extensions();
     payloads();
     bins();

@@ -83,6 +83,32 @@ fn groups_agree_whatever_byte_is_changed() {
     }
 }
 
+/// A group of 496 lines, progressive or not, with a slice in this row.
+fn of_496_lines(progressive: bool, row: u8) -> Vec<u8> {
+    let mut header = HEADER;
+    header[2] |= u8::from(progressive) << 7;
+    header[4..6].copy_from_slice(&[0x0F, 0x82]);
+    [unit(0xB0, &header), unit(0xB3, &[0x80]), unit(row, &[0x80])].concat()
+}
+
+/// Each group has the rows of its own header, and its slices are below them.
+#[test]
+fn macroblock_rows_by_group() {
+    let stream = |groups: &[Vec<u8>]| [groups.concat(), unit(0xB1, &[])].concat();
+    let good = stream(&[of_496_lines(true, 30), of_496_lines(false, 31), of_496_lines(true, 30)]);
+    let recording = file(&good).unwrap();
+    let header = |g| recording.group(g).unwrap().header;
+    let rows: Vec<_> = (0..3).map(|g| (header(g).progressive, header(g).macroblock_rows)).collect();
+    assert_eq!(rows, [(true, 31), (false, 32), (true, 31)]);
+    for groups in [
+        [of_496_lines(false, 31), of_496_lines(true, 31)],
+        [of_496_lines(true, 30), of_496_lines(false, 32)],
+    ] {
+        let refused = check(&stream(&groups)).unwrap_err();
+        assert_eq!((refused.reason, refused.offset), (Reason::Value, Some(53)));
+    }
+}
+
 #[test]
 fn bodies_outlive_their_recording() {
     let stream = three_groups();

@@ -146,6 +146,37 @@ fn the_sheet_as_json() {
     assert_eq!(group.get("copyrights").list(), []);
 }
 
+/// 496 lines, progressive or not, with a slice in this row.
+fn of_496_lines(progressive: bool, row: u8) -> Vec<u8> {
+    let mut header = HEADER;
+    header[2] |= u8::from(progressive) << 7;
+    header[4..6].copy_from_slice(&[0x0F, 0x82]);
+    [unit(0xB0, &header), unit(0xB3, &[0x80]), unit(row, &[0x80]), unit(0xB1, &[])].concat()
+}
+
+/// The sheet says by which formula the rows were worked out.
+#[test]
+fn macroblock_rows() {
+    for (progressive, last, how) in [
+        (false, 31, "32  worked out: 2 x ((496 + 31) / 32), as progressive is 0"),
+        (true, 30, "31  worked out: (496 + 15) / 16, as progressive is 1"),
+    ] {
+        let name = written(&format!("rows-{}.avs", last), &of_496_lines(progressive, last));
+        let sheet = avsplus(&["file", &name]);
+        let line = sheet.text().lines().find(|line| line.contains("macroblock rows")).unwrap();
+        assert_eq!(
+            (sheet.status, line.trim_start_matches("    macroblock rows").trim_start()),
+            (0, how)
+        );
+        let json = avsplus(&["header", &name, "--json"]).json();
+        let rows = json.get("worked_out").get("macroblock_rows");
+        assert_eq!(rows.number(), i64::from(last) + 1);
+        let refused = avsplus_reading(&["file", "-"], &of_496_lines(progressive, last + 1));
+        let answer = refused.text().lines().next();
+        assert_eq!((refused.status, answer), (1, Some("answer: VALUE (8) at byte 24")));
+    }
+}
+
 /// Aspect 1 says square samples: that is given.
 #[test]
 fn square_samples() {
