@@ -1,5 +1,5 @@
 #!/usr/bin/env python3
-"""The tables of docs/RULES.md are those of the definitions.
+"""The tables of docs/RULES.md, and its formulas of macroblocks, are those of the definitions.
 
 Nothing else compares them: a caller who has only the page goes by it. Both sides are made into rows of words, in order, so that a
 row that is missing, added or moved differs too. A line for each difference, and exit 1.
@@ -57,6 +57,11 @@ def large_numbers(text):
     return [int(n.replace(",", "")) for n in re.findall(r"\b\d{1,3}(?:,\d{3})+\b", text)]
 
 
+def formulas(heading):
+    """What is defined by an indented line of the section, the formula, and where it holds, if not everywhere."""
+    return re.findall(r"^    (\w[\w ]*?) +=  (.*?)(?: +(where .*))?$", section(heading), re.M)
+
+
 # ── the definitions ──
 
 
@@ -107,6 +112,21 @@ def ratios(name, others):
     yield "any other", others
 
 
+def said(formula):
+    """A formula over a header record h in the page's words."""
+    return re.sub(r"h \.(\w+)", r"\1 size", formula).replace("*", "×")
+
+
+def macroblocks():
+    """Columns and rows; these have two formulas, by progressive, which is one bit."""
+    text = read("crates/macroblocks/specs/Macroblocks.antt")
+    (columns,) = re.findall(r"^macroblockColumns h = (.*)$", text, re.M)
+    ((interlaced, progressive),) = re.findall(r"^macroblockRows h = cond \(eqb \(h \.progressive\) 0\) \((2.*)\) \((\(h.*)\)$", text, re.M)
+    yield "macroblock columns", said(columns), ""
+    yield "macroblock rows", said(interlaced), "where progressive is 0"
+    yield "macroblock rows", said(progressive), "where progressive is 1"
+
+
 def limits():
     return [int(n.replace("_", "")) for n in re.findall(r"^\w+ = ([\d_]+)$", read("crates/answers/specs/Limits.antt"), re.M)]
 
@@ -126,6 +146,7 @@ def pairs():
     # aspect 1 stands in a comment of the definitions alone
     aspects = [("1", "square samples, no ratio"), *ratios("displayRatios", "no ratio")]
     yield "display ratios", aspects, table(heading, "Aspect, Says")
+    yield "macroblocks", macroblocks(), [row for row in formulas("Grammar of a stream") if row[0].startswith("macroblock")]
     yield "limits", limits(), large_numbers(section("Limits"))
     yield "limits of TOO LONG", limits()[:2], large_numbers(" ".join(" ".join(row) for row in numbers if row[1] == "TOO LONG"))
 
