@@ -107,13 +107,26 @@ fn rows_by_first_group(stream: &[u8], rows: &mut [u32]) -> Answer {
     (LIBRARY.file)(&with_progressive(stream, |first, _| first), rows)
 }
 
-/// The number of rows of every header is that of a progressive one.
-fn number_of_progressive(body: &[u8], numbers: &mut [u64]) -> Answer {
+/// The number of rows of a header becomes another, by progressive and vertical size.
+fn with_rows(body: &[u8], numbers: &mut [u64], of: impl Fn(u64, u64) -> u64) -> Answer {
     let answer = (LIBRARY.sequence_header)(body, numbers);
     if answer.count > 0 {
-        numbers[13] = (numbers[4] + 15) / 16;
+        numbers[13] = of(numbers[2], numbers[4]);
     }
     answer
+}
+
+/// That of a progressive recording.
+fn number_as_progressive(body: &[u8], numbers: &mut [u64]) -> Answer {
+    with_rows(body, numbers, |_, lines| (lines + 15) / 16)
+}
+
+/// That of one field where it is interlaced.
+fn number_of_one_field(body: &[u8], numbers: &mut [u64]) -> Answer {
+    with_rows(body, numbers, |progressive, lines| match progressive {
+        0 => (lines + 31) / 32,
+        _ => (lines + 15) / 16,
+    })
 }
 
 /// A body that ends exactly at the stream's end is no row.
@@ -230,7 +243,7 @@ fn last_number(answer: Answer, numbers: &mut [u64]) -> Answer {
 type Slip = (&'static str, fn(&mut Decoder));
 
 /// At least one for every question.
-const SLIPS: [Slip; 33] = [
+const SLIPS: [Slip; 34] = [
     ("check that is full", |d| d.check = check_that_is_full),
     ("last row", |d| d.file = last_row),
     ("word after the rows", |d| d.file = word_after_rows),
@@ -240,7 +253,8 @@ const SLIPS: [Slip; 33] = [
     ("interlaced rows as progressive", |d| d.file = rows_of_progressive),
     ("rows swapped", |d| d.file = rows_swapped),
     ("rows by the first group", |d| d.file = rows_by_first_group),
-    ("number of rows as progressive", |d| d.sequence_header = number_of_progressive),
+    ("number of rows as progressive", |d| d.sequence_header = number_as_progressive),
+    ("number of rows of one field", |d| d.sequence_header = number_of_one_field),
     ("row before the end", |d| d.row_exists = row_before_end),
     ("body with its code", |d| d.row_body = body_with_code),
     ("group", |d| d.group = |s, g, n| last_number((LIBRARY.group)(s, g, n), n)),
