@@ -1,5 +1,5 @@
-/* The examples of document 01 through the C header, groups and extensions with each of their counts, macroblock rows progressive and
- * not, and null pointers with length 0: each line prints what it is, and exit 1 where one differs. */
+/* The examples of document 01 through the C header, groups and extensions with each of their counts, macroblock rows
+ * progressive and not, and null pointers with length 0: each line prints what it is, and exit 1 where one differs. */
 #include <stdio.h>
 #include <string.h>
 
