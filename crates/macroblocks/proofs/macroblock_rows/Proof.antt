@@ -18,7 +18,7 @@ cast-result : tie.Need-cast-result
 cast-result c = search needs
 
 returns : tie.Need-returns
-returns c = let e = interlaced-rows (c .before .before .before .args .h) (c .before .if1 .taken) in omega arith
+returns c = let e = interlaced-rows (c .before .before .before .args .h) (omega arith) in omega arith
 
 long-requires-2 : tie.Need-long-requires-2
 long-requires-2 c κs = search needs
