@@ -1,5 +1,5 @@
 #!/usr/bin/env python3
-"""The answers that document 01 asks for the questions of crates/run_reads, worked out from the document alone.
+"""The answers that documents 01 and 02 ask for the questions of crates/run_reads, worked out from these papers alone.
 
 Reads the questions (not the code) from crates/run_reads/src/main.rt and prints what the program must print. The gate holds
 this to crates/run_reads/stdout, and rt ci holds the program to that file.

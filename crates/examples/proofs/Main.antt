@@ -1,4 +1,4 @@
--- The examples of document 01, and its rules at their limits: each is one list under one statement.
+-- The examples of document 01, and the rules at their limits: each is one list under one statement.
 use mathlib.Core.Path.{_≡_, refl}
 use mathlib.Core.List.{List, [], _∷_, map}
 use Rattle.bits.specs.Bits.{bitsIn, bitsOf, bitAt, readOn, readAt, packOn}

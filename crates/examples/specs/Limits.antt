@@ -1,6 +1,6 @@
--- Document 01's rules, each at its limit and beside it: what the definitions answer, beside what the document says.
--- Bodies are written here by width and value, with none of the library's tables, and the numbers said are worked out from the
--- document alone: a rule changed in code and definition alike does not agree with them.
+-- The rules of document 01, and of document 02 where it changes them, each at its limit and beside it: what the definitions answer,
+-- beside what the papers say. Bodies are written here by width and value, with none of the library's tables, and the numbers said
+-- are worked out from the papers alone: a rule changed in code and definition alike does not agree with them.
 use Prim.Native.Nat.{ℕ, zero, suc, _*_, _+_, _/_, _%_, _^_}
 use mathlib.Core.List.{List, [], _∷_, _++_, map}
 use mathlib.Core.Bool.{cond}

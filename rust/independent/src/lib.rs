@@ -1,4 +1,4 @@
-//! A plain decoder written from document 01 alone, to be compared with another one.
+//! A plain decoder written from documents 01 and 02 alone, to be compared with another one.
 //! It aims at being obviously the document's words, not at speed.
 #![forbid(unsafe_code)]
 
