@@ -3,18 +3,18 @@ use Prim.Native.Nat.{ℕ}
 use mathlib.Core.Path.{_≡_, refl, sym, ap, _∙_}
 use mathlib.Core.List.{List}
 use native.Mathlib.Omega.{arith}
-use Rattle.answers.specs.Answers.{Outcome, done, refused, mapDone, andThen, OneToOne}
+use Rattle.answers.specs.Answers.{Carried, Outcome, done, refused, mapDone, andThen, OneToOne}
 
-pub not-done : {P A : Type 0} {n : ℕ} {carried : List ℕ} {a : A} → refused n carried ≡ done a → P
+pub not-done : {P A : Type 0} {n : ℕ} {carried : List Carried} {a : A} → refused n carried ≡ done a → P
 not-done e = let z : _≡_ {A = ℕ} 0 1 = cc in absurd (omega arith)
 
-pub not-refused : {P A : Type 0} {n : ℕ} {carried : List ℕ} {a : A} → done a ≡ refused n carried → P
+pub not-refused : {P A : Type 0} {n : ℕ} {carried : List Carried} {a : A} → done a ≡ refused n carried → P
 not-refused e = let z : _≡_ {A = ℕ} 0 1 = cc in absurd (omega arith)
 
 pub done-one : {A : Type 0} {a b : A} → done a ≡ done b → a ≡ b
 done-one e = cc
 
-pub other-number : {P A : Type 0} {m n : ℕ} {carried more : List ℕ} → _≡_ {A = Outcome A} (refused m carried) (refused n more) → (m ≡ n → ⊥) → P
+pub other-number : {P A : Type 0} {m n : ℕ} {carried more : List Carried} → _≡_ {A = Outcome A} (refused m carried) (refused n more) → (m ≡ n → ⊥) → P
 other-number e h = absurd (h cc)
 
 -- ── one step after another ──
@@ -22,7 +22,7 @@ other-number e h = absurd (h cc)
 pub goes : {A B : Type 0} {value : A} {o : Outcome A} (next : A → Outcome B) → done value ≡ o → next value ≡ andThen o next
 goes next e = ap (λ o. andThen o next) e
 
-pub stops : {A B : Type 0} {n : ℕ} {carried : List ℕ} {o : Outcome A} (next : A → Outcome B) → refused n carried ≡ o → refused n carried ≡ andThen o next
+pub stops : {A B : Type 0} {n : ℕ} {carried : List Carried} {o : Outcome A} (next : A → Outcome B) → refused n carried ≡ o → refused n carried ≡ andThen o next
 stops next e = ap (λ o. andThen o next) e
 
 -- two steps, one after the other, of which the first is done
@@ -30,7 +30,7 @@ module _ {A B C : Type 0} {o : Outcome A} (first : A → Outcome B) (next : A �
   pub goes-on : (w : B) → done w ≡ first value → next value w ≡ andThen o (λ a. andThen (first a) (next a))
   goes-on w f = goes (next value) f ∙ goes (λ a. andThen (first a) (next a)) e
 
-  pub stops-next : {n : ℕ} {carried : List ℕ} → refused n carried ≡ first value → refused n carried ≡ andThen o (λ a. andThen (first a) (next a))
+  pub stops-next : {n : ℕ} {carried : List Carried} → refused n carried ≡ first value → refused n carried ≡ andThen o (λ a. andThen (first a) (next a))
   stops-next f = stops (next value) f ∙ goes (λ a. andThen (first a) (next a)) e
 
 -- two steps that are done: the value between them

@@ -1,13 +1,18 @@
--- Document 01, "Refusal numbers": what an answer is, and the number of each refusal.
+-- Document 01, "Refusal numbers", and document 02, E1: what an answer is, and the number of each refusal.
 use Prim.Native.Nat.{ℕ}
 use mathlib.Core.Path.{_≡_}
 use mathlib.Core.List.{List, []}
 use mathlib.Core.Bool.{Bool, cond}
 
--- An answer in document 01's terms: number 0 with its value, or the number of a refusal with the values that it carries.
+-- What a refusal carries: its offset in the stream, or "the bit place inside the body, counted from 0".
+pub data Carried : Type 0 where
+  at-offset : ℕ → Carried
+  at-bit : ℕ → Carried
+
+-- An answer in document 01's terms: number 0 with its value, or the number of a refusal with what it carries.
 pub data Outcome (A : Type 0) : Type 0 where
   done : A → Outcome A
-  refused : ℕ → List ℕ → Outcome A
+  refused : ℕ → List Carried → Outcome A
 
 -- a refusal where a test holds, before all that comes after it
 abbrev pub refuseIf : {A : Type 0} → Bool → ℕ → Outcome A → Outcome A
@@ -48,6 +53,7 @@ SHORT = 6
 abbrev pub MARKER : ℕ
 MARKER = 7
 
+-- of Exp-Golomb numbers alone; of fields and slices it has the numbers from 20 on
 abbrev pub VALUE : ℕ
 VALUE = 8
 
@@ -74,3 +80,43 @@ BAD-STATE = 15
 
 abbrev pub NO-ROW : ℕ
 NO-ROW = 16
+
+-- "VALUE becomes a number for each field": width and height are the sizes of a sequence header
+abbrev pub VALUE-WIDTH : ℕ
+VALUE-WIDTH = 20
+
+abbrev pub VALUE-HEIGHT : ℕ
+VALUE-HEIGHT = 21
+
+abbrev pub VALUE-CHROMA : ℕ
+VALUE-CHROMA = 22
+
+abbrev pub VALUE-PRECISION : ℕ
+VALUE-PRECISION = 23
+
+abbrev pub VALUE-ASPECT : ℕ
+VALUE-ASPECT = 24
+
+abbrev pub VALUE-RATE : ℕ
+VALUE-RATE = 25
+
+abbrev pub VALUE-TRANSFER : ℕ
+VALUE-TRANSFER = 26
+
+abbrev pub VALUE-MATRIX : ℕ
+VALUE-MATRIX = 27
+
+abbrev pub VALUE-STEREO : ℕ
+VALUE-STEREO = 28
+
+abbrev pub VALUE-COPYRIGHT-OWNER : ℕ
+VALUE-COPYRIGHT-OWNER = 29
+
+abbrev pub VALUE-COPYRIGHT-NUMBER : ℕ
+VALUE-COPYRIGHT-NUMBER = 30
+
+abbrev pub VALUE-SLICE-ORDER : ℕ
+VALUE-SLICE-ORDER = 31
+
+abbrev pub VALUE-SLICE-ROW : ℕ
+VALUE-SLICE-ROW = 32

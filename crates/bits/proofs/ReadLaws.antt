@@ -7,7 +7,7 @@ use native.Mathlib.Omega.{arith}
 use native.Mathlib.Nat.{div-eq-of-lt, div-lt-iff-lt-mul}
 use lib.ListN.{length, take, drop, length-drop}
 use lib.Pow.{pow-pos}
-use Rattle.answers.specs.Answers.{Outcome, done, refused}
+use Rattle.answers.specs.Answers.{Carried, Outcome, done, refused}
 use Rattle.answers.proofs.OutcomeLaws.{not-done}
 use Rattle.bits.specs.Bits.{bitsIn, payload, readAt, readOr}
 use Rattle.bits.specs.declared.Read.{Read}
@@ -39,7 +39,7 @@ missing-exactly bits place width =
     )
 
 -- an asker whose answer is done was given a value
-pub found-value : {A : Type 0} (found : ℕ → Outcome A) (number : ℕ) (carried : List ℕ) (r : Read) (a : A) →
+pub found-value : {A : Type 0} (found : ℕ → Outcome A) (number : ℕ) (carried : List Carried) (r : Read) (a : A) →
     readOr found (refused number carried) r ≡ done a → (v : ℕ) × (r ≡ Value v) × (found v ≡ done a)
 found-value found number carried (Value v) a e = (v, refl, e)
 found-value found number carried Missing a e = not-done e

@@ -2,24 +2,27 @@
 use Prim.Native.Nat.{ℕ, zero, suc, _≤_, _<_}
 use mathlib.Core.Path.{_≡_, refl, sym, ap, _∙_, subst}
 use mathlib.Core.List.{List, [], _∷_}
-use mathlib.Core.Bool.{Bool, true, false, cond, _&&_}
+use mathlib.Core.Bool.{Bool, true, false, cond, _&&_, false≢true}
 use mathlib.Core.Option.{Option, some}
 use native.Mathlib.Omega.{arith}
-use borrow.Author.Tests.{le-ltb}
+use borrow.Author.Tests.{le-ltb, ltb-false}
 use lib.Dec.{eqb, ltb}
-use lib.ListN.{length, take}
-use Rattle.answers.specs.Answers.{Outcome, refused}
+use lib.ListN.{length, getD, take}
+use lib.Seq.{drop-cons}
 use Rattle.bits.specs.Bits.{bitsOf, bitAt}
 use Rattle.bits.specs.declared.Bit.{Bit}
+use Rattle.bits.proofs.TestLaws.{by-test}
+use Rattle.bits.proofs.BitLaws.{length-bits, all-bits, bit-here, bit-small}
 use Rattle.layout.specs.Layouts.{fields, leastBytes}
 use Rattle.layout.specs.Obeys.{Fits}
 use Rattle.layout.specs.Reader.{Result, _>>_, refuseIf, reading}
-use Rattle.bodies.specs.Reader.{recorded, answerOf, recordOf, plainOf, colouredOf, copyrightOf, isOne, readBit, displayShort, displayOf}
+use Rattle.bodies.specs.Reader.{recorded, recordOf, plainOf, colouredOf, copyrightOf, isOne, readBit, displayShort, displayOf}
 use Rattle.answers.specs.Results.{good, bad, _>>=_}
 use Rattle.layout.specs.Answers.{verdictSays, bodySays}
+use Rattle.bodies.specs.Extensions.{ColourGiven}
 use Rattle.bodies.specs.Records.{plainRecord, colouredRecord, copyrightRecord}
 use Rattle.bodies.specs.Inside.{layoutBy, recordBy, resultBy}
-use Rattle.bodies.specs.Answers.{faultNumber, Extension, display, copyright}
+use Rattle.bodies.specs.Answers.{Extension, display, copyright}
 use Rattle.bodies.specs.declared.Recorded.{Recorded}
 use Rattle.bodies.specs.declared.Recorded.the-variants.{Plain, Coloured, Copyright}
 use Rattle.layout.specs.declared.Layout.{Layout}
@@ -80,11 +83,6 @@ module _ (which : Recorded) (layout : Layout) (same : layout ≡ layoutBy which)
   pub result-fits : r .verdict ≡ Fine → Fits (fields (layoutBy which)) (take (length (fields layout)) (r .values))
   result-fits e = subst (λ (l : Layout). Fits (fields l) (take (length (fields layout)) (r .values))) same (held layout body r says e)
 
--- a refusal's number
-pub refused-by : {A : Type 0} (number : ℕ) (why : Fault) → number ≡ faultNumber why → _≡_ {A = Outcome A} (refused number []) (answerOf (bad why))
-unfolding answerOf
-refused-by number why e = ap (λ (n : ℕ). refused n []) e
-
 -- ── display extensions ──
 
 pub bit-within : (n place : ℕ) (l : List ℕ) → place < n → bitAt (take n l) place ≡ bitAt l place
@@ -108,3 +106,14 @@ display-short body e = ap (λ (t : Bool). refuseIf t Short >> byColour body (bit
 pub display-long : (body : List ℕ) (b : Bit) → displayShort body ≡ false → bitAt (bitsOf body) 8 ≡ b → displayOf body ≡ (readBit b >>= (λ colour. cond (eqb colour 1) (colouredOf body) (plainOf body)))
 unfolding displayOf
 display-long body b e f = ap (λ (t : Bool). refuseIf t Short >> byColour body (bitAt (bitsOf body) 8)) e ∙ ap (byColour body) f
+
+pub not-short : (body : List ℕ) → displayShort body ≡ false → 6 ≤ length body
+unfolding displayShort leastBytes
+not-short body e = by-test (ltb (length body) 6) (λ t. absurd (false≢true (sym (rw t at e)))) (ltb-false (length body) 6)
+
+-- a body that is not short has its colour bit
+pub colour-there : (body : List ℕ) → 6 ≤ length body → (given : ℕ) × ColourGiven body given × (given < 2)
+colour-there body six =
+    let l = length-bits body in
+    let d = drop-cons (bitsOf body) 8 0 (omega arith) in
+    (getD (bitsOf body) 8 0, sym (bit-here (bitsOf body) 8 _ _ d), bit-small (bitsOf body) 8 _ _ (all-bits body) d)

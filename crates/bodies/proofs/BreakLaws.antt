@@ -1,5 +1,5 @@
 -- Reading a header, a display extension or any extension refuses exactly where its body breaks what document 01 says of it.
-use Prim.Native.Nat.{ℕ, _<_}
+use Prim.Native.Nat.{ℕ, _≤_, _<_}
 use mathlib.Core.Path.{_≡_, refl, sym, ap, _∙_, subst}
 use mathlib.Core.Logic.{_≢_, inl, inr, _↔_}
 use mathlib.Core.List.{List, [], _∷_}
@@ -8,29 +8,29 @@ use mathlib.Core.Option.{Option, some}
 use native.Mathlib.Omega.{arith}
 use borrow.Author.Tests.{eqb-true, eqb-false, ltb-true, ltb-false, lt-ltb}
 use lib.Dec.{eqb, ltb}
-use lib.ListN.{length, getD}
-use lib.Seq.{drop-cons}
+use lib.ListN.{length}
 use Rattle.answers.proofs.ResultLaws.{not-bad}
-use Rattle.answers.specs.Answers.{refused, SHORT}
+use Rattle.answers.specs.Answers.{Carried, refused, SHORT}
 use Rattle.bits.specs.Bits.{bitsOf, bitAt, readOn, readAt}
 use Rattle.bits.specs.declared.Bit.{Bit}
 use Rattle.bits.specs.declared.Bit.the-variants as bit
 use Rattle.bits.specs.declared.Read.the-variants.{Value}
 use Rattle.bits.proofs.TestLaws.{by-test, and-true}
-use Rattle.bits.proofs.BitLaws.{length-bits, all-bits, bit-here, bit-small}
-use Rattle.layout.specs.Layouts.{fields, leastBytes}
+use Rattle.layout.specs.Layouts.{fields}
 use Rattle.bodies.specs.Records.{headerRecord, plainRecord, colouredRecord, copyrightRecord}
 use Rattle.layout.specs.Obeys.{Fits}
 use Rattle.layout.specs.Reader.{Result, short}
-use Rattle.bodies.specs.Reader.{answerOf, recordOf, headerResult, plainOf, colouredOf, copyrightOf, isOne, displayShort, displayOf, numberOf, notCopyright, byNumber, extensionResult, extensionOf}
+use Rattle.bodies.specs.Reader.{recordOf, headerResult, plainOf, colouredOf, copyrightOf, isOne, displayShort, displayOf, numberOf, notCopyright, byNumber, extensionResult, extensionOf}
 use Rattle.answers.specs.Results.{good, bad, _>>=_}
-use Rattle.bodies.specs.Answers.{faultNumber, Extension, display, copyright}
+use Rattle.bodies.specs.Answers.{valueNumber, faultNumber, faultBit, answerOf, Extension, display, copyright}
 use Rattle.layout.specs.Breaks.{Breaks}
-use Rattle.bodies.specs.Breaks.{ColourGiven, ShortDisplay, BreaksDisplay, short-display, coloured, plain, BreaksExtension, empty}
+use Rattle.bodies.specs.Breaks.{ShortDisplay, BreaksDisplay, short-display, coloured, plain, BreaksExtension, empty}
 use Rattle.bodies.specs.Breaks as breaks
-use Rattle.bodies.specs.Extensions.{HasNumber}
+use Rattle.bodies.specs.Extensions.{HasNumber, ColourGiven}
 use Rattle.layout.specs.declared.Layout.{Layout}
 use Rattle.layout.specs.declared.Layout.the-variants.{Header, Display, Coloured, Copyright}
+use Rattle.layout.specs.declared.JudgedField.{JudgedField}
+use Rattle.layout.specs.declared.JudgedField.the-variants.{Width, Height, Chroma, Precision, Aspect, Rate, Transfer, Matrix, Stereo, CopyrightOwner, CopyrightNumber}
 use Rattle.layout.specs.declared.Fault.{Fault}
 use Rattle.layout.specs.declared.Fault.the-variants.{Short, Marker, Stuffing}
 use Rattle.layout.specs.declared.Fault.the-variants as fault
@@ -39,7 +39,7 @@ use Rattle.bodies.specs.declared.Scope.the-variants.{Head, Picture}
 use Rattle.bodies.specs.declared.CopyrightExtension.{CopyrightExtension}
 use Rattle.layout.proofs.LayoutLaws.{fits-length, spelled}
 use Rattle.bodies.proofs.NumberLaws.{number-iff, has-number}
-use Rattle.bodies.proofs.AnswerLaws.{display-short, display-long}
+use Rattle.bodies.proofs.AnswerLaws.{display-short, display-long, not-short, colour-there}
 use Rattle.layout.proofs.BreakLaws.{breaks-if, if-breaks, short-breaks}
 use Rattle.bodies.proofs.ExtensionLaws.{answer-refused, record-bad, bad-record, wrapped-bad, header-made, plain-made, coloured-made, display-result}
 
@@ -75,12 +75,12 @@ copyright-bad : (body : List ℕ) (why : Fault) → (copyrightOf body ≡ bad wh
 unfolding copyrightOf
 copyright-bad body why = wrapped-breaks Copyright copyrightRecord copyright-made body why copyright
 
--- a result that is bad exactly for what is broken is refused with the number of that
-pub refused-iff : {A : Type 0} (r : Result A) (Broken : Fault → Type 0) → ((why : Fault) → (r ≡ bad why) ↔ Broken why) → (n : ℕ) →
-    (answerOf r ≡ refused n []) ↔ ((why : Fault) × Broken why × (n ≡ faultNumber why))
-refused-iff r Broken iff n = let a = answer-refused r n in (
-  (λ e. let (why, b, m) = a .0 e in (why, iff why .0 b, m)),
-  λ h. a .1 (h .0, iff (h .0) .1 (h .1), h .2),
+-- a result that is bad exactly for what is broken is refused with the number and the bit of that
+pub refused-iff : {A : Type 0} (r : Result A) (Broken : Fault → Type 0) → ((why : Fault) → (r ≡ bad why) ↔ Broken why) → (n : ℕ) (carried : List Carried) →
+    (answerOf r ≡ refused n carried) ↔ ((why : Fault) × Broken why × (n ≡ faultNumber why) × (carried ≡ faultBit why))
+refused-iff r Broken iff n carried = let a = answer-refused r n carried in (
+  (λ e. let (why, b, m, c) = a .0 e in (why, iff why .0 b, m, c)),
+  λ h. a .1 (h .0, iff (h .0) .1 (h .1), h .2, h .3),
 )
 
 -- ── display extensions ──
@@ -112,12 +112,7 @@ long-iff body = let i = short-iff body in (
 module _ (body : List ℕ) (long : ¬ ShortDisplay body) where
   -- a display extension that is not short has its colour bit
   colour-bit : (given : ℕ) × ColourGiven body given × (given < 2)
-  unfolding leastBytes
-  colour-bit =
-      let six = by-test (ltb (length body) 6) (λ t. absurd (long (inl (ltb-true (length body) 6 t)))) (ltb-false (length body) 6) in
-      let l = length-bits body in
-      let d = drop-cons (bitsOf body) 8 0 (omega arith) in
-      (getD (bitsOf body) 8 0, sym (bit-here (bitsOf body) 8 _ _ d), bit-small (bitsOf body) 8 _ _ (all-bits body) d)
+  colour-bit = colour-there body (not-short body (long-iff body .1 long))
 
   display-by : (given : ℕ) → ColourGiven body given → displayOf body ≡ cond (eqb given 1) (colouredOf body) (plainOf body)
   display-by given c = display-long body (bit.Is given) (long-iff body .1 long) c
@@ -189,21 +184,39 @@ short-display-if body (short-display s e) = s
 short-display-if body (coloured long c b) = inr (c, short-breaks Coloured body b)
 short-display-if body (plain long c b) = inl (short-breaks Display body b)
 
+-- VALUE's numbers are those from 20 to 30
+pub value-over : (field : JudgedField) → (20 ≤ valueNumber field) × (valueNumber field ≤ 30)
+unfolding valueNumber
+value-over Width = omega arith
+value-over Height = omega arith
+value-over Chroma = omega arith
+value-over Precision = omega arith
+value-over Aspect = omega arith
+value-over Rate = omega arith
+value-over Transfer = omega arith
+value-over Matrix = omega arith
+value-over Stereo = omega arith
+value-over CopyrightOwner = omega arith
+value-over CopyrightNumber = omega arith
+
 -- the number of SHORT is that of no other fault
 short-number : (why : Fault) → faultNumber why ≡ SHORT → why ≡ Short
 unfolding faultNumber
 short-number Short e = refl
 short-number (Marker at) e = absurd (omega arith)
-short-number (fault.Value name at) e = absurd (omega arith)
+short-number (fault.Value field at) e = absurd (over-short field e)
+  where
+    over-short : (field : JudgedField) → valueNumber field ≡ SHORT → ⊥
+    over-short field e = let h = value-over field in omega arith
 short-number Stuffing e = absurd (omega arith)
 
 pub answers-short : (body : List ℕ) → HasNumber body 2 → extensionOf Head body ≡ refused SHORT [] → displayShort body ≡ true
 unfolding extensionOf
 answers-short body t e =
-    let (why, r, n) = answer-refused (extensionResult Head body) SHORT .0 e in
+    let (why, r, n, c) = answer-refused (extensionResult Head body) SHORT [] .0 e in
     let b = display-bad body why .0 (sym (display-result body t) ∙ r) in
     short-iff body .1 (short-display-if body (subst (BreaksDisplay body) (short-number why (sym n)) b))
 
 pub short-answers : (body : List ℕ) → HasNumber body 2 → displayShort body ≡ true → extensionOf Head body ≡ refused SHORT []
-unfolding extensionOf answerOf faultNumber
+unfolding extensionOf answerOf faultNumber faultBit
 short-answers body t s = ap answerOf (display-result body t ∙ display-short body s)

@@ -3,13 +3,13 @@ use Prim.Native.Nat.{ℕ, zero, suc, _+_, _*_, _<_}
 use mathlib.Core.Path.{_≡_, refl, sym, ap, _∙_, subst}
 use mathlib.Core.Logic.{_≢_, _↔_}
 use mathlib.Core.List.{List, [], _∷_}
-use mathlib.Core.Bool.{Bool, true, false, cond}
+use mathlib.Core.Bool.{Bool, false, cond}
 use mathlib.Core.Option.{Option, none, some}
 use native.Mathlib.Omega.{arith}
-use borrow.Author.Tests.{eqb-false, ne-eqb, le-ltb}
+use borrow.Author.Tests.{eqb-true, eqb-false, ne-eqb, le-ltb}
 use lib.Dec.{eqb}
-use lib.ListN.{length, getD, take, drop, replicate}
-use Rattle.answers.specs.Answers.{done, refused}
+use lib.ListN.{length, getD, take, drop}
+use Rattle.answers.specs.Answers.{Carried, done, refused}
 use Rattle.bits.specs.Bits.{bitsOf, bitAt, readOn, readAt}
 use Rattle.bits.specs.declared.Bit.{Bit}
 use Rattle.bits.specs.declared.Bit.the-variants as bit
@@ -17,34 +17,33 @@ use Rattle.bits.specs.declared.Read.{Read}
 use Rattle.bits.specs.declared.Read.the-variants as read
 use Rattle.bits.proofs.TestLaws.{by-test}
 use Rattle.bits.proofs.BitLaws.{read-fits, bit-here}
-use Rattle.layout.specs.Layouts.{widthOf, ruleOf, Allowed, marker, fields, bitCount, leastBytes}
+use Rattle.layout.specs.Layouts.{widthOf, marker, fields, bitCount, leastBytes}
 use Rattle.bodies.specs.Records.{headerRecord, plainRecord, colouredRecord, copyrightRecord}
-use Rattle.layout.specs.Obeys.{AllAllowed, Fits, Obeys}
+use Rattle.layout.specs.Obeys.{Fits, Obeys}
 use Rattle.bodies.specs.Bodies.{HeaderBody, DisplayBody, plain, coloured, CopyrightBody}
-use Rattle.bodies.specs.Extensions.{HasNumber}
+use Rattle.bodies.specs.Extensions.{HasNumber, ColourGiven}
 use Rattle.layout.specs.Breaks.{Holds}
-use Rattle.layout.specs.Reader.{Result, refuseIf, readValue, valuesOf, reading}
-use Rattle.bodies.specs.Reader.{recorded, answerOf, recordOf, headerOf, plainOf, colouredOf, copyrightOf, readBit, displayShort, displayOf, numberOf, notCopyright, byNumber, extensionResult, extensionOf}
+use Rattle.layout.specs.Reader.{Result, readValue, valuesOf, reading}
+use Rattle.bodies.specs.Reader.{recorded, recordOf, headerOf, plainOf, colouredOf, copyrightOf, displayShort, displayOf, numberOf, notCopyright, byNumber, extensionResult, extensionOf}
 use Rattle.answers.specs.Results.{good, bad, _>>=_}
-use Rattle.bodies.specs.Answers.{faultNumber, Extension, display, copyright, opaque}
+use Rattle.bodies.specs.Answers.{faultNumber, faultBit, answerOf, Extension, display, copyright, opaque}
 use Rattle.layout.specs.declared.Field.{Field}
 use Rattle.layout.specs.declared.Layout.{Layout}
 use Rattle.layout.specs.declared.Layout.the-variants.{Header, Display, Coloured, Copyright}
 use Rattle.layout.specs.declared.Fault.{Fault}
-use Rattle.layout.specs.declared.Fault.the-variants as fault
 use Rattle.bodies.specs.declared.Scope.{Scope}
 use Rattle.bodies.specs.declared.Scope.the-variants.{Head, Picture}
 use Rattle.bodies.specs.declared.SequenceHeader.{SequenceHeader}
 use Rattle.bodies.specs.declared.DisplayExtension.{DisplayExtension}
 use Rattle.bodies.specs.declared.CopyrightExtension.{CopyrightExtension}
-use Rattle.layout.proofs.LayoutLaws.{each-at, fits-length, spelled}
+use Rattle.layout.proofs.LayoutLaws.{fits-length, spelled}
 use Rattle.bodies.proofs.NumberLaws.{number-iff, number-one}
 use Rattle.layout.proofs.ReadingLaws.{value-good}
-use Rattle.layout.proofs.ObeyLaws.{then-good, obeys-if, if-obeys}
+use Rattle.layout.proofs.ObeyLaws.{obeys-if, if-obeys}
 use Rattle.answers.proofs.OutcomeLaws.{not-done, not-refused, done-one}
 use Rattle.answers.proofs.ResultLaws.{not-good, not-bad, good-same, bad-same, bind-good}
 use Rattle.layout.proofs.BreakLaws.{held-read}
-use Rattle.bodies.proofs.AnswerLaws.{short-by, display-long}
+use Rattle.bodies.proofs.AnswerLaws.{short-by, display-short, display-long, not-short, colour-there}
 
 -- ── answers and results ──
 
@@ -53,10 +52,11 @@ unfolding answerOf
 answer-done (good b) a e = ap good (done-one e)
 answer-done (bad why) a e = not-done e
 
-pub answer-refused : {A : Type 0} (r : Result A) (n : ℕ) → (answerOf r ≡ refused n []) ↔ ((why : Fault) × (r ≡ bad why) × (n ≡ faultNumber why))
+pub answer-refused : {A : Type 0} (r : Result A) (n : ℕ) (carried : List Carried) →
+    (answerOf r ≡ refused n carried) ↔ ((why : Fault) × (r ≡ bad why) × (n ≡ faultNumber why) × (carried ≡ faultBit why))
 unfolding answerOf
-answer-refused (good a) n = (not-refused, λ h. not-bad (h .1))
-answer-refused (bad f) n = ((λ e. (f, refl, cc)), λ h. ap answerOf (h .1) ∙ ap (λ (m : ℕ). refused m []) (sym (h .2)))
+answer-refused (good a) n carried = (not-refused, λ h. not-bad (h .1))
+answer-refused (bad f) n carried = ((λ e. (f, refl, cc, cc)), λ h. ap answerOf (h .1) ∙ rw (← h .2, ← h .3))
 
 -- ── records ──
 
@@ -103,7 +103,7 @@ pub coloured-made : (vs : List ℕ) → Fits (fields Coloured) vs → (d : Displ
 unfolding colouredRecord fields
 coloured-made vs f = (_, ap colouredRecord (spelled 11 vs (fits-length (fields Coloured) vs f)))
 
--- ── what an obeying body's first bits are ──
+-- ── what a body's fields are ──
 
 value-read : (bits : List ℕ) (fs : List Field) (at : ℕ) (vs : List ℕ) (i : ℕ) → valuesOf fs at bits ≡ good vs → i < length fs →
     readAt bits (at + bitCount (take i fs)) (widthOf (getD fs i marker)) ≡ read.Value (getD vs i 0)
@@ -127,17 +127,6 @@ held-field layout body vs end h i k =
     let z : bitCount (take i (fields layout)) ≡ 0 + bitCount (take i (fields layout)) = omega arith in
     rw z (value-read (bitsOf body) (fields layout) 0 vs i (held-read layout body vs end h) k)
 
-module _ (layout : Layout) (body vs : List ℕ) (h : Obeys layout body vs) where
-  pub obeys-holds : Holds layout body vs (1 ∷ replicate (h .zeros) 0)
-  obeys-holds = record { long = h .long; fits = h .fits; bits = h .bits }
-
-  field-read : (i : ℕ) → i < length (fields layout) → readAt (bitsOf body) (bitCount (take i (fields layout))) (widthOf (getD (fields layout) i marker)) ≡ read.Value (getD vs i 0)
-  field-read i k = held-field layout body vs (1 ∷ replicate (h .zeros) 0) obeys-holds i k
-
-  field-allowed : (i : ℕ) → i < length (fields layout) → Allowed (ruleOf (getD (fields layout) i marker)) (getD vs i 0)
-  unfolding AllAllowed
-  field-allowed i k = each-at (λ (f : Field) (v : ℕ). Allowed (ruleOf f) v) (fields layout) vs i (h .allowed) k
-
 bit-value : (l : List ℕ) (at v : ℕ) (m : List ℕ) → drop at l ≡ m → readOn 0 1 m ≡ read.Value v → bitAt l at ≡ bit.Is v
 unfolding readOn
 bit-value l at v [] d e = let z : _≡_ {A = ℕ} 0 1 = cc in absurd (omega arith)
@@ -149,33 +138,6 @@ bit-value l at v (b ∷ m) d e =
 colour-bit : (body : List ℕ) (v : ℕ) → readAt (bitsOf body) 8 1 ≡ read.Value v → bitAt (bitsOf body) 8 ≡ bit.Is v
 colour-bit body v e = bit-value (bitsOf body) 8 v (drop 8 (bitsOf body)) refl (sym (read-fits (bitsOf body) 8 1 (omega arith)) ∙ e)
 
-number-read : (layout : Layout) (body vs : List ℕ) (n : ℕ) (h : Obeys layout body vs) → 0 < length (fields layout) → widthOf (getD (fields layout) 0 marker) ≡ 4 → getD vs 0 0 ≡ n → HasNumber body n
-number-read layout body vs n h k w e = number-iff body n .0 (ap (readAt (bitsOf body) 0) (sym w) ∙ field-read layout body vs h 0 k ∙ ap read.Value e)
-
-pub display-number : (body vs : List ℕ) → Obeys Display body vs → HasNumber body 2
-unfolding fields
-display-number body vs h = number-read Display body vs 2 h (omega arith) refl (field-allowed Display body vs h 0 (omega arith))
-
-pub coloured-number : (body vs : List ℕ) → Obeys Coloured body vs → HasNumber body 2
-unfolding fields
-coloured-number body vs h = number-read Coloured body vs 2 h (omega arith) refl (field-allowed Coloured body vs h 0 (omega arith))
-
-pub copyright-number : (body vs : List ℕ) → Obeys Copyright body vs → HasNumber body 4
-unfolding fields
-copyright-number body vs h = number-read Copyright body vs 4 h (omega arith) refl (field-allowed Copyright body vs h 0 (omega arith))
-
-pub display-bit : (body vs : List ℕ) → Obeys Display body vs → bitAt (bitsOf body) 8 ≡ bit.Is 0
-unfolding fields
-display-bit body vs h =
-    colour-bit body (getD vs 3 0) (field-read Display body vs h 3 (omega arith))
-    ∙ ap bit.Is (field-allowed Display body vs h 3 (omega arith))
-
-pub coloured-bit : (body vs : List ℕ) → Obeys Coloured body vs → bitAt (bitsOf body) 8 ≡ bit.Is 1
-unfolding fields
-coloured-bit body vs h =
-    colour-bit body (getD vs 3 0) (field-read Coloured body vs h 3 (omega arith))
-    ∙ ap bit.Is (field-allowed Coloured body vs h 3 (omega arith))
-
 -- ── display extensions ──
 
 wrapped : {A : Type 0} (r : Result A) (wrap : A → Extension) (x : Extension) → (r >>= (λ a. good (wrap a))) ≡ good x → (a : A) × (r ≡ good a) × (x ≡ wrap a)
@@ -185,53 +147,54 @@ pub wrapped-bad : {A : Type 0} (r : Result A) (wrap : A → Extension) (why : Fa
 wrapped-bad (good a) wrap why e = not-bad e
 wrapped-bad (bad f) wrap why e = ap bad (bad-same {A = Extension} e)
 
-by-cond : {A P : Type 0} (t : Bool) (a b : Result A) (x : A) → cond t a b ≡ good x → (a ≡ good x → P) → (b ≡ good x → P) → P
-by-cond true a b x e f g = f e
-by-cond false a b x e f g = g e
-
 -- what a display extension's body gives
-display-if : (body : List ℕ) (x : Extension) → displayOf body ≡ good x → (d : DisplayExtension) × (x ≡ display d) × DisplayBody body d
-unfolding displayOf plainOf colouredOf
-display-if body x e =
-    let s = then-good (refuseIf (displayShort body) fault.Short) _ x e in
-    let b = bind-good (readBit (bitAt (bitsOf body) 8)) _ x (s .1) in
-    by-cond (eqb (b .0) 1) (colouredOf body) (plainOf body) x (b .2)
-    (λ c.
-    let w = wrapped (recordOf Coloured colouredRecord body) display x c in
-    let r = record-if Coloured colouredRecord body (w .0) (w .1) in
-    (w .0, w .2, coloured (r .0) (r .1) (r .2)))
-    (λ p.
-    let w = wrapped (recordOf Display plainRecord body) display x p in
-    let r = record-if Display plainRecord body (w .0) (w .1) in
-    (w .0, w .2, plain (r .0) (r .1) (r .2)))
+display-if : (body : List ℕ) (x : Extension) → HasNumber body 2 → displayOf body ≡ good x → (d : DisplayExtension) × (x ≡ display d) × DisplayBody body d
+unfolding plainOf colouredOf
+display-if body x n e = by-test (displayShort body) (λ t. not-good (sym (display-short body t) ∙ e)) long
+  where
+    long : displayShort body ≡ false → (d : DisplayExtension) × (x ≡ display d) × DisplayBody body d
+    long f =
+        let (given, c, small) = colour-there body (not-short body f) in
+        let r : cond (eqb given 1) (colouredOf body) (plainOf body) ≡ good x = sym (display-long body (bit.Is given) f c) ∙ e in
+        by-test (eqb given 1)
+        (λ t.
+        let w = wrapped (recordOf Coloured colouredRecord body) display x (rw t at r) in
+        let o = record-if Coloured colouredRecord body (w .0) (w .1) in
+        (w .0, w .2, coloured n (subst (ColourGiven body) (eqb-true given 1 t) c) (o .0) (o .1) (o .2)))
+        (λ g.
+        let not-one = eqb-false given 1 g in
+        let none : given ≡ 0 = omega arith in
+        let w = wrapped (recordOf Display plainRecord body) display x (rw g at r) in
+        let o = record-if Display plainRecord body (w .0) (w .1) in
+        (w .0, w .2, plain n (subst (ColourGiven body) none c) (o .0) (o .1) (o .2)))
 
 if-display : (body : List ℕ) (d : DisplayExtension) → DisplayBody body d → HasNumber body 2 × (displayOf body ≡ good (display d))
 unfolding plainOf colouredOf leastBytes
-if-display body d (plain vs h m) = (
-  display-number body vs h,
-  display-long body (bit.Is 0) (short-by body (bit.Is 0) (h .long) (display-bit body vs h)) (display-bit body vs h)
+if-display body d (plain n c vs h m) = (
+  n,
+  display-long body (bit.Is 0) (short-by body (bit.Is 0) (h .long) c) c
       ∙ ap (λ (r : Result DisplayExtension). r >>= (λ d. good (display d))) (if-record Display plainRecord body d vs h m),
 )
-if-display body d (coloured vs h m) =
+if-display body d (coloured n c vs h m) =
     let long = h .long in (
-      coloured-number body vs h,
-      display-long body (bit.Is 1) (short-by body (bit.Is 1) (omega arith) (coloured-bit body vs h) ∙ le-ltb (length body) 9 (h .long)) (coloured-bit body vs h)
+      n,
+      display-long body (bit.Is 1) (short-by body (bit.Is 1) (omega arith) c ∙ le-ltb (length body) 9 (h .long)) c
           ∙ ap (λ (r : Result DisplayExtension). r >>= (λ d. good (display d))) (if-record Coloured colouredRecord body d vs h m),
     )
 
 -- ── copyright extensions ──
 
-copyright-if : (body : List ℕ) (x : Extension) → copyrightOf body ≡ good x → (c : CopyrightExtension) × (x ≡ copyright c) × CopyrightBody body c
+copyright-if : (body : List ℕ) (x : Extension) → HasNumber body 4 → copyrightOf body ≡ good x → (c : CopyrightExtension) × (x ≡ copyright c) × CopyrightBody body c
 unfolding copyrightOf
-copyright-if body x e =
+copyright-if body x n e =
     let w = wrapped (recordOf Copyright copyrightRecord body) copyright x e in
     let r = record-if Copyright copyrightRecord body (w .0) (w .1) in
-    (w .0, w .2, record { values = r .0; obeys = r .1; recorded = r .2 })
+    (w .0, w .2, record { number = n; values = r .0; obeys = r .1; recorded = r .2 })
 
 if-copyright : (body : List ℕ) (c : CopyrightExtension) → CopyrightBody body c → HasNumber body 4 × (copyrightOf body ≡ good (copyright c))
 unfolding copyrightOf
 if-copyright body c h = (
-  copyright-number body (h .values) (h .obeys),
+  h .number,
   ap (λ (r : Result CopyrightExtension). r >>= (λ c. good (copyright c))) (if-record Copyright copyrightRecord body c (h .values) (h .obeys) (h .recorded)),
 )
 
@@ -246,7 +209,7 @@ pub data Answers (scope : Scope) (body : List ℕ) (x : Extension) : Type 0 wher
 by-scope : (scope : Scope) (body : List ℕ) (n : ℕ) (x : Extension) → HasNumber body n → n ≢ 4 → notCopyright scope body n ≡ good x → Answers scope body x
 by-scope Head body n x r f e =
     by-test (eqb n 2)
-    (λ t. let h = display-if body x (sym (ap (λ (b : Bool). cond b (displayOf body) (good (opaque n))) t) ∙ e) in as-display (h .0) refl (h .1) (h .2))
+    (λ t. let h = display-if body x (subst (HasNumber body) (eqb-true n 2 t) r) (sym (ap (λ (b : Bool). cond b (displayOf body) (good (opaque n))) t) ∙ e) in as-display (h .0) refl (h .1) (h .2))
     (λ o.
     as-opaque n (sym (good-same (sym (ap (λ (b : Bool). cond b (displayOf body) (good (opaque n))) o) ∙ e))) r f
     (λ p. eqb-false n 2 o))
@@ -259,7 +222,7 @@ extension-if scope body x e =
     let n = b .0 in
     let r = number-iff body n .0 (value-good (numberOf body) n (b .1)) in
     by-test (eqb n 4)
-    (λ t. let h = copyright-if body x (sym (ap (λ (b : Bool). cond b (copyrightOf body) (notCopyright scope body n)) t) ∙ b .2) in as-copyright (h .0) (h .1) (h .2))
+    (λ t. let h = copyright-if body x (subst (HasNumber body) (eqb-true n 4 t) r) (sym (ap (λ (b : Bool). cond b (copyrightOf body) (notCopyright scope body n)) t) ∙ b .2) in as-copyright (h .0) (h .1) (h .2))
     (λ f. by-scope scope body n x r (eqb-false n 4 f) (sym (ap (λ (b : Bool). cond b (copyrightOf body) (notCopyright scope body n)) f) ∙ b .2))
 
 by-number : (scope : Scope) (body : List ℕ) (n : ℕ) → HasNumber body n → extensionResult scope body ≡ byNumber scope body n
@@ -290,7 +253,7 @@ pub display-result : (body : List ℕ) → HasNumber body 2 → extensionResult 
 unfolding byNumber
 display-result body h = by-number Head body 2 h
 
--- ── the fields that a body is told apart by are as its layout asks ──
+-- ── the fields that choose a layout ──
 
 same-bit : (m n : ℕ) (x : Bit) → x ≡ bit.Is m → x ≡ bit.Is n → m ≡ n
 same-bit m n x e f = cc

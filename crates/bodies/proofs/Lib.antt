@@ -3,5 +3,6 @@ pub mod NumberLaws
 pub mod AnswerLaws
 pub mod ExtensionLaws
 pub mod BreakLaws
+pub mod PlaceLaws
 pub mod SaysLaws
 pub mod Main

@@ -1,20 +1,20 @@
 -- What is proved of bodies beyond the contracts of the functions.
-use Prim.Native.Nat.{ℕ}
-use mathlib.Core.Path.{_≡_, ap}
+use Prim.Native.Nat.{ℕ, _<_}
+use mathlib.Core.Path.{_≡_, sym, ap}
 use mathlib.Core.Logic.{_↔_, _≢_}
-use mathlib.Core.List.{List, []}
+use mathlib.Core.List.{List, [], _∷_}
 use mathlib.Core.Bool.{true}
 use lib.ListN.{getD}
-use Rattle.answers.specs.Answers.{done, refused, OneToOne, SHORT}
+use Rattle.answers.specs.Answers.{Carried, at-bit, done, refused, OneToOne, SHORT}
 use Rattle.bits.specs.Bits.{bitsOf, bitAt}
 use Rattle.bits.specs.declared.Bit.the-variants.{Is}
 use Rattle.bodies.specs.Extensions.{HasNumber, isOpaque}
 use Rattle.bodies.specs.Bodies.{HeaderBody, DisplayBody, CopyrightBody}
 use Rattle.layout.specs.Breaks.{Holds, Breaks}
 use Rattle.bodies.specs.Breaks.{ShortDisplay, BreaksExtension}
-use Rattle.bodies.specs.Reader.{answerOf, headerResult, headerOf, displayShort, extensionResult, extensionOf}
+use Rattle.bodies.specs.Reader.{headerResult, headerOf, displayShort, extensionResult, extensionOf}
 use Rattle.answers.specs.Results.{Result, good, bad}
-use Rattle.bodies.specs.Answers.{faultNumber, headerGives, headerSays, display, copyright, opaque, extensionGives, extensionSays}
+use Rattle.bodies.specs.Answers.{faultNumber, faultBit, answerOf, headerSays, display, copyright, opaque, extensionSays}
 use Rattle.layout.specs.declared.Layout.the-variants.{Header, Display, Coloured, Copyright}
 use Rattle.layout.specs.declared.Fault.{Fault}
 use Rattle.bodies.specs.declared.SequenceHeader.{SequenceHeader}
@@ -24,6 +24,7 @@ use Rattle.bodies.specs.declared.Scope.{Scope}
 use Rattle.bodies.specs.declared.Scope.the-variants.{Head}
 use Rattle.bodies.proofs.NumberLaws.{opaque-test}
 use Rattle.bodies.proofs.BreakLaws as breaks
+use Rattle.bodies.proofs.PlaceLaws as places
 use Rattle.bodies.proofs.ExtensionLaws as laws
 use Rattle.bodies.proofs.SaysLaws as says
 
@@ -42,10 +43,15 @@ header-iff body h = (laws.header-if body h, laws.if-header body h)
 pub header-faulty-iff : (body : List ℕ) (why : Fault) → (headerResult body ≡ bad why) ↔ Breaks Header body why
 header-faulty-iff = breaks.header-bad
 
--- A refusal has the number of that.
-pub header-refused-iff : (body : List ℕ) (number : ℕ) → (headerOf body ≡ refused number []) ↔ ((why : Fault) × Breaks Header body why × (number ≡ faultNumber why))
+-- A refusal has the number and the bit of that.
+pub header-refused-iff : (body : List ℕ) (number : ℕ) (carried : List Carried) →
+    (headerOf body ≡ refused number carried) ↔ ((why : Fault) × Breaks Header body why × (number ≡ faultNumber why) × (carried ≡ faultBit why))
 unfolding headerOf
 header-refused-iff body = breaks.refused-iff (headerResult body) (Breaks Header body) (breaks.header-bad body)
+
+-- A bit that it carries is one of the fields' bits, of which no layout has more than 112.
+pub header-bit : (body : List ℕ) (number bit : ℕ) → headerOf body ≡ refused number (at-bit bit ∷ []) → bit < 112
+header-bit body number bit e = let (why, b, n, c) = header-refused-iff body number (at-bit bit ∷ []) .0 e in places.layout-inside Header body why b bit (sym c)
 
 -- ── extensions ──
 
@@ -71,10 +77,14 @@ is-opaque-iff scope body n h =
 pub extension-faulty-iff : (scope : Scope) (body : List ℕ) (why : Fault) → (extensionResult scope body ≡ bad why) ↔ BreaksExtension scope body why
 extension-faulty-iff = breaks.extension-bad
 
--- A refusal has the number of that.
-pub extension-refused-iff : (scope : Scope) (body : List ℕ) (number : ℕ) → (extensionOf scope body ≡ refused number []) ↔ ((why : Fault) × BreaksExtension scope body why × (number ≡ faultNumber why))
+-- A refusal has the number and the bit of that.
+pub extension-refused-iff : (scope : Scope) (body : List ℕ) (number : ℕ) (carried : List Carried) →
+    (extensionOf scope body ≡ refused number carried) ↔ ((why : Fault) × BreaksExtension scope body why × (number ≡ faultNumber why) × (carried ≡ faultBit why))
 unfolding extensionOf
 extension-refused-iff scope body = breaks.refused-iff (extensionResult scope body) (BreaksExtension scope body) (breaks.extension-bad scope body)
+
+pub extension-bit : (scope : Scope) (body : List ℕ) (number bit : ℕ) → extensionOf scope body ≡ refused number (at-bit bit ∷ []) → bit < 112
+extension-bit scope body number bit e = let (why, b, n, c) = extension-refused-iff scope body number (at-bit bit ∷ []) .0 e in places.extension-inside scope body why b bit (sym c)
 
 -- SHORT of a display extension is its own test, so another test can stand between it and the fields.
 pub display-short-iff : (body : List ℕ) → HasNumber body 2 → (extensionOf Head body ≡ refused SHORT []) ↔ (displayShort body ≡ true)
@@ -84,7 +94,7 @@ display-short-iff body h = (breaks.answers-short body h, breaks.short-answers bo
 pub short-display-iff : (body : List ℕ) → (displayShort body ≡ true) ↔ ShortDisplay body
 short-display-iff = breaks.short-iff
 
--- The number and the colour bit choose the layout, so their fields have the values that it asks for, and are never refused.
+-- The number and the colour bit choose the layout, so their fields have the values that chose it.
 pub display-fixed : (body vs end : List ℕ) → Holds Display body vs end → HasNumber body 2 → bitAt (bitsOf body) 8 ≡ Is 0 → (getD vs 0 0 ≡ 2) × (getD vs 3 0 ≡ 0)
 display-fixed = laws.display-fixed
 
@@ -94,16 +104,14 @@ coloured-fixed = laws.coloured-fixed
 pub copyright-fixed : (body vs end : List ℕ) → Holds Copyright body vs end → HasNumber body 4 → getD vs 0 0 ≡ 4
 copyright-fixed = laws.copyright-fixed
 
--- ── no two readings give the same, and no two answers say the same ──
-
-pub header-reading-one-to-one : OneToOne headerGives
-header-reading-one-to-one = says.header-gives
-
-pub extension-reading-one-to-one : OneToOne extensionGives
-extension-reading-one-to-one = says.extension-gives
+-- ── no two answers say the same ──
 
 pub header-one-to-one : OneToOne headerSays
 header-one-to-one = says.header-says
 
 pub extension-one-to-one : OneToOne extensionSays
 extension-one-to-one = says.extension-says
+
+-- Nothing that is given is said as another: numbers and bits tell all faults apart.
+pub answered-one-to-one : {A : Type 0} → OneToOne (answerOf {A = A})
+answered-one-to-one = says.answer-one

@@ -5,20 +5,14 @@ use mathlib.Core.Path.{_≡_}
 use mathlib.Core.Logic.{_⊎_}
 use mathlib.Core.List.{List, []}
 use lib.ListN.{length}
-use Rattle.bits.specs.Bits.{bitsOf, bitAt}
-use Rattle.bits.specs.declared.Bit.the-variants.{Is}
 use Rattle.layout.specs.Layouts.{leastBytes}
 use Rattle.layout.specs.Breaks.{Breaks}
 use Rattle.layout.specs.declared.Layout.the-variants.{Display, Coloured, Copyright}
 use Rattle.layout.specs.declared.Fault.{Fault}
 use Rattle.layout.specs.declared.Fault.the-variants as fault
-use Rattle.bodies.specs.Extensions.{HasNumber}
+use Rattle.bodies.specs.Extensions.{HasNumber, ColourGiven}
 use Rattle.bodies.specs.declared.Scope.{Scope}
 use Rattle.bodies.specs.declared.Scope.the-variants.{Head}
-
--- "colour given": bit 8 of a display extension
-abbrev pub ColourGiven : List ℕ → ℕ → Type 0
-ColourGiven body given = bitAt (bitsOf body) 8 ≡ Is given
 
 -- "40 or 64 bits, so at least 6 or 9 bytes"
 abbrev pub ShortDisplay : List ℕ → Type 0

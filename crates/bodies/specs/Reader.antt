@@ -1,10 +1,10 @@
 -- Reading sequence headers and extensions, as a computation: the values of a body by its layout, then the record that they make.
 use Prim.Native.Nat.{ℕ}
-use mathlib.Core.List.{List, []}
+use mathlib.Core.List.{List}
 use mathlib.Core.Bool.{Bool, false, cond, _&&_, _||_}
 use mathlib.Core.Option.{Option, none, some}
 use lib.Dec.{eqb}
-use Rattle.answers.specs.Answers.{Outcome, done, refused}
+use Rattle.answers.specs.Answers.{Outcome}
 use Rattle.answers.specs.Results.{good, bad, _>>=_}
 use Rattle.bits.specs.Bits.{bitsOf, bitAt, readAt}
 use Rattle.bits.specs.declared.Bit.{Bit}
@@ -15,7 +15,7 @@ use Rattle.layout.specs.declared.Layout.{Layout}
 use Rattle.layout.specs.declared.Layout.the-variants.{Header, Display, Coloured, Copyright}
 use Rattle.layout.specs.declared.Fault.the-variants.{Short}
 use Rattle.bodies.specs.Records.{headerRecord, plainRecord, colouredRecord, copyrightRecord}
-use Rattle.bodies.specs.Answers.{faultNumber, Extension, display, copyright, opaque}
+use Rattle.bodies.specs.Answers.{answerOf, Extension, display, copyright, opaque}
 use Rattle.bodies.specs.declared.SequenceHeader.{SequenceHeader}
 use Rattle.bodies.specs.declared.Scope.{Scope}
 use Rattle.bodies.specs.declared.Scope.the-variants as scope
@@ -30,11 +30,6 @@ unfoldable pub recordOf : {A : Type 0} → Layout → (List ℕ → Option A) �
 recordOf layout make body = do
   vs ← reading layout body
   recorded (make vs)
-
--- a result in document 01's terms
-unfoldable pub answerOf : {A : Type 0} → Result A → Outcome A
-answerOf (good a) = done a
-answerOf (bad fault) = refused (faultNumber fault) []
 
 -- ── sequence header ──
 

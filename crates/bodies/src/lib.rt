@@ -2,6 +2,7 @@
 use bits::Bit;
 use bits::Read;
 use layout::Fault;
+use layout::JudgedField;
 use layout::Layout;
 use layout::Verdict;
 ghost use mathlib.Core.Path.{_≡_};
@@ -11,18 +12,10 @@ ghost use lib.ListN.{length};
 ghost use Rattle.layout.specs.Layouts.{headerFields, copyrightFields, fields};
 ghost use Rattle.layout.specs.Obeys.{Fits};
 ghost use Rattle.bodies.specs.Extensions.{numbered, isOpaque};
-ghost use Rattle.bodies.specs.Reader.{headerResult, headerOf, displayShort, displayOf, numberOf, byNumber, extensionResult, extensionOf};
+ghost use Rattle.bodies.specs.Reader.{headerOf, displayShort, displayOf, numberOf, byNumber, extensionOf};
 ghost use Rattle.bodies.specs.Inside.{layoutBy, recordBy, resultBy};
 ghost use Rattle.bodies.specs.Records.{headerRecord, plainRecord, colouredRecord, copyrightRecord};
-ghost use Rattle.bodies.specs.Answers.{reasonNumber, faultNumber, headerGives, headerSays, extensionGives, extensionSays};
-
-// What is refused, and why.
-pub enum Reason {
-    Short,
-    Marker,
-    Value,
-    Stuffing,
-}
+ghost use Rattle.bodies.specs.Answers.{valueNumber, faultNumber, headerSays, extensionGives, extensionSays};
 
 pub struct SequenceHeader {
     pub profile: u32,
@@ -39,16 +32,10 @@ pub struct SequenceHeader {
     pub buffer: u32,
 }
 
-// A sequence header that was read: its record, or what is wrong with its body.
-pub enum HeaderReading {
-    Header(SequenceHeader),
-    Faulty(Fault),
-}
-
-// The same, without the field and its bit.
+// A sequence header's record, or what its body is refused for.
 pub enum HeaderAnswer {
     Header(SequenceHeader),
-    Refused(Reason),
+    Refused(Fault),
 }
 
 // A display extension's colour: primaries, transfer, matrix.
@@ -79,21 +66,47 @@ pub enum Scope {
     Picture,
 }
 
-// An extension that was read: its record, or of an opaque one its number alone, or what is wrong with its body.
-pub enum ExtensionReading {
-    Display(DisplayExtension),
-    Copyright(CopyrightExtension),
-    Opaque(u32),
-    Faulty(Fault),
-}
-
-// The same, without the field and its bit.
+// An extension's record, or of an opaque one its number alone, or what its body is refused for.
 pub enum ExtensionAnswer {
     Display(DisplayExtension),
     Copyright(CopyrightExtension),
     Opaque(u32),
-    Refused(Reason),
+    Refused(Fault),
 }
+
+// ── numbers of refusals ──
+
+fn value_number(field: JudgedField) -> u32
+    ensures { λ r. ⌜ r ≡ valueNumber field ⌝ }
+{
+    match field {
+        JudgedField::Width => 20,
+        JudgedField::Height => 21,
+        JudgedField::Chroma => 22,
+        JudgedField::Precision => 23,
+        JudgedField::Aspect => 24,
+        JudgedField::Rate => 25,
+        JudgedField::Transfer => 26,
+        JudgedField::Matrix => 27,
+        JudgedField::Stereo => 28,
+        JudgedField::CopyrightOwner => 29,
+        JudgedField::CopyrightNumber => 30,
+    }
+}
+
+// The number of what a body is refused for.
+pub fn fault_number(why: Fault) -> u32
+    ensures { λ r. ⌜ r ≡ faultNumber why ⌝ }
+{
+    match why {
+        Fault::Short => 6,
+        Fault::Marker(_) => 7,
+        Fault::Value(field, _) => value_number(field),
+        Fault::Stuffing => 9,
+    }
+}
+
+// ── records ──
 
 fn long(x: u32) -> u64
     ensures { λ r. ⌜ (r ≡ x) × (r < 4294967296) ⌝ }
@@ -168,38 +181,16 @@ fn copyright_record(values: &[u32]) -> CopyrightExtension
     }
 }
 
-// The public reason of what is wrong; the field and its bit are not answered.
-fn reason_of(fault: Fault) -> Reason
-    ensures { λ r. ⌜ reasonNumber r ≡ faultNumber fault ⌝ }
-{
-    match fault {
-        Fault::Short => Reason::Short,
-        Fault::Marker(_) => Reason::Marker,
-        Fault::Value(_, _) => Reason::Value,
-        Fault::Stuffing => Reason::Stuffing,
-    }
-}
-
-// A sequence header's body: its record, or what is wrong with it.
-pub fn read_header(body: &[u8]) -> HeaderReading
-    ensures { λ r. ⌜ headerGives r ≡ headerResult (now (body .entry)) ⌝ }
+// A sequence header's body: its record, or its refusal.
+pub fn sequence_header(body: &[u8]) -> HeaderAnswer
+    ensures { λ r. ⌜ headerSays r ≡ headerOf (now (body .entry)) ⌝ }
 {
     let read = layout::read_body(Layout::Header, body);
     let verdict = read.verdict;
     let values = read.values;
     match verdict {
-        Verdict::Faulty(fault) => HeaderReading::Faulty(fault),
-        Verdict::Fine => HeaderReading::Header(header_record(&values[..16])),
-    }
-}
-
-// A sequence header's body: its record, or its refusal.
-pub fn sequence_header(body: &[u8]) -> HeaderAnswer
-    ensures { λ r. ⌜ headerSays r ≡ headerOf (now (body .entry)) ⌝ }
-{
-    match read_header(body) {
-        HeaderReading::Header(header) => HeaderAnswer::Header(header),
-        HeaderReading::Faulty(fault) => HeaderAnswer::Refused(reason_of(fault)),
+        Verdict::Faulty(fault) => HeaderAnswer::Refused(fault),
+        Verdict::Fine => HeaderAnswer::Header(header_record(&values[..16])),
     }
 }
 
@@ -221,19 +212,19 @@ fn layout_by(which: Recorded) -> Layout
 }
 
 // The extension that the values of its fields make.
-fn record_by(which: Recorded, values: &[u32]) -> ExtensionReading
+fn record_by(which: Recorded, values: &[u32]) -> ExtensionAnswer
     requires { ⌜ Fits (fields (layoutBy which)) (now values) ⌝ }
     ensures { λ r. ⌜ extensionGives r ≡ recordBy which (now (values .entry)) ⌝ }
 {
     match which {
-        Recorded::Plain => ExtensionReading::Display(plain_record(values)),
-        Recorded::Coloured => ExtensionReading::Display(coloured_record(values)),
-        Recorded::Copyright => ExtensionReading::Copyright(copyright_record(values)),
+        Recorded::Plain => ExtensionAnswer::Display(plain_record(values)),
+        Recorded::Coloured => ExtensionAnswer::Display(coloured_record(values)),
+        Recorded::Copyright => ExtensionAnswer::Copyright(copyright_record(values)),
     }
 }
 
 // An extension's body, by its layout.
-fn read_by(which: Recorded, body: &[u8]) -> ExtensionReading
+fn read_by(which: Recorded, body: &[u8]) -> ExtensionAnswer
     ensures { λ r. ⌜ extensionGives r ≡ resultBy which (now (body .entry)) ⌝ }
 {
     let layout = layout_by(which);
@@ -241,7 +232,7 @@ fn read_by(which: Recorded, body: &[u8]) -> ExtensionReading
     let verdict = read.verdict;
     let values = read.values;
     match verdict {
-        Verdict::Faulty(fault) => ExtensionReading::Faulty(fault),
+        Verdict::Faulty(fault) => ExtensionAnswer::Refused(fault),
         Verdict::Fine => {
             let n = layout::field_count(layout);
             record_by(which, &values[..n])
@@ -304,11 +295,11 @@ pub fn display_short(body: &[u8]) -> bool
 }
 
 // A display extension's body, by its colour bit.
-fn display(body: &[u8]) -> ExtensionReading
+fn display(body: &[u8]) -> ExtensionAnswer
     ensures { λ r. ⌜ extensionGives r ≡ displayOf (now (body .entry)) ⌝ }
 {
     if display_short(body) {
-        return ExtensionReading::Faulty(Fault::Short);
+        return ExtensionAnswer::Refused(Fault::Short);
     }
     match bits::read_bit(body, 9, 8) {
         Bit::Is(given) => {
@@ -318,12 +309,12 @@ fn display(body: &[u8]) -> ExtensionReading
                 read_by(Recorded::Plain, body)
             }
         }
-        Bit::Missing => ExtensionReading::Faulty(Fault::Short),
+        Bit::Missing => ExtensionAnswer::Refused(Fault::Short),
     }
 }
 
 // An extension by its number.
-fn by_number(number: u32, body: &[u8], scope: Scope) -> ExtensionReading
+fn by_number(number: u32, body: &[u8], scope: Scope) -> ExtensionAnswer
     ensures { λ r. ⌜ extensionGives r ≡ byNumber scope (now (body .entry)) number ⌝ }
 {
     if number == 4 {
@@ -334,21 +325,10 @@ fn by_number(number: u32, body: &[u8], scope: Scope) -> ExtensionReading
             if number == 2 {
                 display(body)
             } else {
-                ExtensionReading::Opaque(number)
+                ExtensionAnswer::Opaque(number)
             }
         }
-        Scope::Picture => ExtensionReading::Opaque(number),
-    }
-}
-
-// An extension's body: its record, or of an opaque one its number, or what is wrong with it.
-pub fn read_extension(body: &[u8], scope: Scope) -> ExtensionReading
-    ensures { λ r. ⌜ extensionGives r ≡ extensionResult scope (now (body .entry)) ⌝ }
-{
-    match number_of(body) {
-        Read::Value(number) => by_number(number, body, scope),
-        Read::Missing => ExtensionReading::Faulty(Fault::Short),
-        Read::TooWide => ExtensionReading::Faulty(Fault::Short),
+        Scope::Picture => ExtensionAnswer::Opaque(number),
     }
 }
 
@@ -356,10 +336,9 @@ pub fn read_extension(body: &[u8], scope: Scope) -> ExtensionReading
 pub fn extension(body: &[u8], scope: Scope) -> ExtensionAnswer
     ensures { λ r. ⌜ extensionSays r ≡ extensionOf scope (now (body .entry)) ⌝ }
 {
-    match read_extension(body, scope) {
-        ExtensionReading::Display(display) => ExtensionAnswer::Display(display),
-        ExtensionReading::Copyright(copyright) => ExtensionAnswer::Copyright(copyright),
-        ExtensionReading::Opaque(number) => ExtensionAnswer::Opaque(number),
-        ExtensionReading::Faulty(fault) => ExtensionAnswer::Refused(reason_of(fault)),
+    match number_of(body) {
+        Read::Value(number) => by_number(number, body, scope),
+        Read::Missing => ExtensionAnswer::Refused(Fault::Short),
+        Read::TooWide => ExtensionAnswer::Refused(Fault::Short),
     }
 }

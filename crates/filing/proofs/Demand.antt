@@ -1,51 +1,50 @@
 -- What filing answers, in the grammar's words.
 use Prim.Native.Nat.{ℕ, _≤_, _<_, _*_}
 use mathlib.Core.Path.{_≡_, refl, sym, _∙_, ap}
-use mathlib.Core.Logic.{_↔_, inl, inr, _≢_}
+use mathlib.Core.Logic.{_↔_}
 use mathlib.Core.List.{List, [], _∷_, _++_}
-use mathlib.Core.Bool.{cond}
-use lib.Dec.{ltb, eqb}
+use mathlib.Core.Bool.{cond, _&&_}
+use lib.Dec.{ltb, leb, eqb}
 use lib.ListN.{length, drop}
-use borrow.Author.Tests.{lt-ltb, le-ltb, ltb-false}
+use borrow.Author.Tests.{lt-ltb, le-ltb, le-leb, ltb-false}
 use native.Mathlib.Omega.{arith}
-use Rattle.answers.specs.Answers.{Outcome, done, refused, OneToOne, FULL}
+use Rattle.answers.specs.Answers.{Carried, at-offset, at-bit, Outcome, done, refused, OneToOne, FULL}
 use Rattle.answers.specs.Limits.{longestStream}
 use Rattle.answers.specs.Results.{good, bad, mapGood}
 use Rattle.answers.proofs.OutcomeLaws.{undone}
 use Rattle.answers.proofs.ResultLaws.{not-good, not-bad, good-same, bad-same}
 use Rattle.bits.proofs.TestLaws.{by-test}
-use Rattle.bodies.specs.Answers.{faultNumber}
-use Rattle.layout.specs.declared.Fault.{Fault}
+use Rattle.bodies.specs.Answers.{faultNumber, faultBit}
+use Rattle.bodies.proofs.BreakLaws.{value-over}
+use Rattle.bodies.proofs.SaysLaws.{faultOf, fault-of}
+use Rattle.layout.specs.declared.JudgedField.{JudgedField}
 use Rattle.layout.specs.declared.Fault.the-variants as fault
-use Rattle.startcode.specs.declared.Kind.{Kind}
-use Rattle.startcode.specs.declared.Kind.the-variants as kind
 use Rattle.grammar.specs.Grammar.{StreamUnit, Reading, Reads, units}
 use Rattle.grammar.specs.Rows.{Placed, placedUnits, rowsFrom, words, rows}
-use Rattle.grammar.specs.Reasons as inside
-use Rattle.grammar.specs.Reasons.{ByNumber}
+use Rattle.grammar.specs.Reasons.{reasonNumber, reasonBit, carries, ByNumber}
 use Rattle.grammar.specs.Reader.{Stopped, Walk, stopAt, walkOfAny, walk, said, within, walkInto, filingInto}
-use Rattle.grammar.specs.Refusals.{OfBody, OutOfOrder, order, row, BadHeadExtension, short, twice, fields, other, BreaksBody, unknown, out-of-place, in-place, Stops, unended, cut, overlap, breaks, Refuses, too-long, no-code, in-unit, RefusesInto, refuses, full}
-use Rattle.grammar.specs.declared.Reason.{Reason as Inner}
-use Rattle.grammar.specs.declared.Reason.the-variants as inner
+use Rattle.grammar.specs.Refusals.{Refuses, RefusesInto, refuses, full}
+use Rattle.grammar.specs.declared.Reason.{Reason}
+use Rattle.grammar.specs.declared.Reason.the-variants as reason
+use Rattle.grammar.proofs.ReasonLaws.{refuses-fair}
 use Rattle.grammar.proofs.Filing.{walked-iff, said-done}
 use Rattle.grammar.proofs.Refusals.{said-refused, said-iff, stopped-iff, into-stopped-iff}
 use Rattle.grammar.proofs.RowLaws.{rows-length, units-length}
 use Rattle.grammar.proofs.Unique.{same-reading}
-use Rattle.filing.specs.Filing.{reasonNumber, totals, wordsAfter, filingSays, checkedSays, ReadingOf, FiledByReading}
+use Rattle.filing.specs.Filing.{totals, wordsAfter, filingSays, checkedSays, ReadingOf, FiledByReading}
 use Rattle.filing.specs.Reader.{filed}
+use Rattle.filing.specs.Inside.{checkedGives}
 use Rattle.filing.specs.declared.Checked.{Checked}
 use Rattle.filing.specs.declared.Checked.the-variants as checked
 use Rattle.filing.specs.declared.FilingAnswer.{FilingAnswer}
 use Rattle.filing.specs.declared.FilingAnswer.the-variants as answer
-use Rattle.filing.specs.declared.Reason.{Reason}
-use Rattle.filing.specs.declared.Reason.the-variants as reason
 use Rattle.filing.specs.declared.Refusal.{Refusal}
 use Rattle.filing.specs.declared.Totals.{Totals}
 
 -- ── the order of the tests ──
 
 module _ (s : List ℕ) where
-  pub walk-long : longestStream < length s → walk s ≡ stopAt inner.TooLong 0
+  pub walk-long : longestStream < length s → walk s ≡ stopAt reason.TooLong 0
   unfolding walk
   walk-long h = rw (lt-ltb longestStream (length s) h)
 
@@ -62,7 +61,7 @@ module _ (s : List ℕ) (lent : ℕ) where
   unfolding walkInto
   into-bad x e = ap (within lent) e
 
-  pub into-full : (ms : List Placed) → walk s ≡ good ms → lent < 3 * length ms → walkInto s lent ≡ stopAt inner.Full 0
+  pub into-full : (ms : List Placed) → walk s ≡ good ms → lent < 3 * length ms → walkInto s lent ≡ stopAt reason.Full 0
   unfolding walkInto
   into-full ms e k = ap (within lent) e ∙ rw (lt-ltb lent (3 * length ms) k)
 
@@ -83,45 +82,58 @@ good-into s lent ms e = within-good lent (walk s) ms e
 
 -- ── what the first pass says ──
 
-pub said-count : (w : Walk) (n : ℕ) → good n ≡ mapGood length w → done n ≡ said length w
-said-count (good ms) n e = ap done (good-same e)
-said-count (bad x) n e = not-bad e
-
-pub said-stop : (w : Walk) (why : Inner) (at : ℕ) → stopAt why at ≡ mapGood length w → refused (inside.reasonNumber why) (at ∷ []) ≡ said length w
-said-stop (good ms) why at e = not-good e
-said-stop (bad x) why at e = ap (λ (x : Stopped). refused (inside.reasonNumber (x .reason)) (x .offset ∷ [])) (bad-same e)
+pub said-checked : (w : Walk) (c : Checked) → checkedGives c ≡ mapGood length w → checkedSays c ≡ said length w
+said-checked (good ms) (checked.Good n) e = ap done (good-same e)
+said-checked (good ms) (checked.Refused r) e = not-good e
+said-checked (bad x) (checked.Good n) e = not-bad e
+said-checked (bad x) (checked.Refused r) e = ap (λ (x : Stopped). refused (reasonNumber (x .reason)) (carries (x .reason) (x .offset))) (bad-same e)
 
 -- ── answers and their numbers ──
 
-reasonOf : ℕ → Reason
-reasonOf n =
-    cond (eqb n 1) reason.NoCode (cond (eqb n 2) reason.Cut (cond (eqb n 3) reason.Overlap (cond (eqb n 4) reason.Unknown
-    (cond (eqb n 5) reason.OutOfPlace (cond (eqb n 6) reason.Short (cond (eqb n 7) reason.Marker (cond (eqb n 8) reason.Value
-    (cond (eqb n 9) reason.Stuffing (cond (eqb n 10) reason.Twice (cond (eqb n 11) reason.Unended (cond (eqb n 12) reason.Full reason.TooLong)))))))))))
+-- a reason from its number and its bit: first the numbers of fields
+reasonOf : ℕ → List Carried → Reason
+reasonOf n bit =
+    cond (leb 20 n && leb n 30) (reason.Body (faultOf n bit))
+    (cond (eqb n 1) reason.NoCode (cond (eqb n 2) reason.Cut (cond (eqb n 3) reason.Overlap (cond (eqb n 4) reason.Unknown
+    (cond (eqb n 5) reason.OutOfPlace (cond (eqb n 10) reason.Twice (cond (eqb n 11) reason.Unended (cond (eqb n 12) reason.Full
+    (cond (eqb n 13) reason.TooLong (cond (eqb n 31) reason.SliceOrder (cond (eqb n 32) reason.SliceRow (reason.Body (faultOf n bit)))))))))))))
 
-reason-undone : (r : Reason) → reasonOf (reasonNumber r) ≡ r
+value-undone : (field : JudgedField) (at : ℕ) → reasonOf (faultNumber (fault.Value field at)) (faultBit (fault.Value field at)) ≡ reason.Body (fault.Value field at)
+unfolding reasonOf
+value-undone field at =
+    let n = faultNumber (fault.Value field at) in
+    let v : (20 ≤ n) × (n ≤ 30) = unfold faultNumber in value-over field in
+    rw (le-leb 20 n (v .0), le-leb n 30 (v .1)) (ap reason.Body (fault-of (fault.Value field at)))
+
+reason-undone : (r : Reason) → reasonOf (reasonNumber r) (reasonBit r) ≡ r
 unfolding reasonOf
 reason-undone reason.NoCode = refl
 reason-undone reason.Cut = refl
 reason-undone reason.Overlap = refl
 reason-undone reason.Unknown = refl
 reason-undone reason.OutOfPlace = refl
-reason-undone reason.Short = refl
-reason-undone reason.Marker = refl
-reason-undone reason.Value = refl
-reason-undone reason.Stuffing = refl
+reason-undone (reason.Body fault.Short) = unfold faultNumber in ap reason.Body (fault-of fault.Short)
+reason-undone (reason.Body (fault.Marker at)) = unfold faultNumber in ap reason.Body (fault-of (fault.Marker at))
+reason-undone (reason.Body (fault.Value field at)) = value-undone field at
+reason-undone (reason.Body fault.Stuffing) = unfold faultNumber in ap reason.Body (fault-of fault.Stuffing)
+reason-undone reason.SliceOrder = refl
+reason-undone reason.SliceRow = refl
 reason-undone reason.Twice = refl
 reason-undone reason.Unended = refl
 reason-undone reason.Full = refl
 reason-undone reason.TooLong = refl
 
--- a refusal is told from its number and its offset
-pub refusalOf : ℕ → List ℕ → Refusal
-refusalOf n [] = record { reason = reasonOf n; offset = 0 }
-refusalOf n (offset ∷ more) = record { reason = reasonOf n; offset = offset }
+-- a refusal is told from its number and what it carries, which begins with its offset
+offsetOf : List Carried → ℕ
+offsetOf [] = 0
+offsetOf (at-offset n ∷ more) = n
+offsetOf (at-bit n ∷ more) = 0
 
-pub refusal-undone : (r : Refusal) → refusalOf (reasonNumber (r .reason)) (r .offset ∷ []) ≡ r
-unfolding refusalOf
+pub refusalOf : ℕ → List Carried → Refusal
+refusalOf n carried = record { reason = reasonOf n (drop 1 carried); offset = offsetOf carried }
+
+pub refusal-undone : (r : Refusal) → refusalOf (reasonNumber (r .reason)) (carries (r .reason) (r .offset)) ≡ r
+unfolding refusalOf offsetOf
 refusal-undone r = ap (λ (w : Reason). record { reason = w; offset = r .offset }) (reason-undone (r .reason))
 
 pub filing-one-to-one : OneToOne filingSays
@@ -145,65 +157,6 @@ checked-one-to-one = undone checkedSays back is
     is : (a : Checked) → back (checkedSays a) ≡ a
     is (checked.Good n) = refl
     is (checked.Refused r) = ap checked.Refused (refusal-undone r)
-
--- ── FULL is for the words lent alone ──
-
-NotFull : Inner → Type 0
-NotFull why = inside.reasonNumber why ≢ FULL
-
--- a reason that is another
-other-reason : (why : Inner) (r : Inner) → why ≡ r → NotFull r → NotFull why
-unfolding NotFull
-other-reason why r e n f = n (ap inside.reasonNumber (sym e) ∙ f)
-
-fault-never : (f : Fault) → NotFull (inner.Body f)
-unfolding NotFull faultNumber
-fault-never fault.Short e = omega arith
-fault-never (fault.Marker at) e = omega arith
-fault-never (fault.Value name at) e = omega arith
-fault-never fault.Stuffing e = omega arith
-
-of-body : (Broken : Fault → Type 0) (why : Inner) → OfBody Broken why → NotFull why
-of-body Broken why b = other-reason why (inner.Body (b .0)) (b .2) (fault-never (b .0))
-
-order-never : {us : List StreamUnit} {u : StreamUnit} {n : ℕ} {why : Inner} → OutOfOrder us u n why → NotFull why
-unfolding NotFull
-order-never {why = why} (order g e) = other-reason why inner.SliceOrder e (λ z. omega arith)
-order-never {why = why} (row g l e) = other-reason why inner.SliceRow e (λ z. omega arith)
-
-head-never : {extras : List StreamUnit} {u : StreamUnit} {why : Inner} → BadHeadExtension extras u why → NotFull why
-unfolding NotFull
-head-never {why = why} (short n s e) = other-reason why (inner.Body fault.Short) e (fault-never fault.Short)
-head-never {why = why} (twice n l o e) = other-reason why inner.Twice e (λ z. omega arith)
-head-never {why = why} (fields n l o b) = of-body _ why b
-head-never {why = why} (other n b) = of-body _ why b
-
-body-never : (k : Kind) (us : List StreamUnit) (u : StreamUnit) (why : Inner) → BreaksBody k us u why → NotFull why
-body-never kind.Slice us u why (inl b) = other-reason why (inner.Body fault.Short) (b .1) (fault-never fault.Short)
-body-never kind.Slice us u why (inr b) = order-never (b .breaks)
-body-never kind.SequenceHeader us u why b = of-body _ why b
-body-never kind.SequenceEnd us u why b = other-reason why (inner.Body fault.Stuffing) (b .1) (fault-never fault.Stuffing)
-body-never kind.UserData us u why b = absurd b
-body-never kind.IPicture us u why b = other-reason why (inner.Body fault.Short) (b .1) (fault-never fault.Short)
-body-never kind.Extension us u why (inl b) = head-never (b .2)
-body-never kind.Extension us u why (inr b) = of-body _ why (b .1)
-body-never kind.PBPicture us u why b = other-reason why (inner.Body fault.Short) (b .1) (fault-never fault.Short)
-body-never kind.EditCode us u why b = other-reason why (inner.Body fault.Stuffing) (b .1) (fault-never fault.Stuffing)
-
-stops-never : {us : List StreamUnit} {left : List ℕ} {why : Inner} → Stops us left why → NotFull why
-unfolding NotFull
-stops-never {why = why} (unended e s w) = other-reason why inner.Unended w (λ z. omega arith)
-stops-never {why = why} (cut e w) = other-reason why inner.Cut w (λ z. omega arith)
-stops-never {why = why} (overlap r e h w) = other-reason why inner.Overlap w (λ z. omega arith)
-stops-never {why = why} (breaks u r e a k (unknown x w)) = other-reason why inner.Unknown w (λ z. omega arith)
-stops-never {why = why} (breaks u r e a k (out-of-place j x p w)) = other-reason why inner.OutOfPlace w (λ z. omega arith)
-stops-never {us} {why = why} (breaks u r e a k (in-place j x p b)) = body-never j us u why b
-
-refuses-never : {s : List ℕ} {why : Inner} {at : ℕ} → Refuses s why at → NotFull why
-unfolding NotFull
-refuses-never {why = why} (too-long l w p) = other-reason why inner.TooLong w (λ z. omega arith)
-refuses-never {why = why} (no-code l h w p) = other-reason why inner.NoCode w (λ z. omega arith)
-refuses-never (in-unit l h t) = stops-never (t .stops)
 
 -- ── demand 3 ──
 
@@ -239,21 +192,21 @@ module _ (s lent after : List ℕ) (r : FilingAnswer) (says : filingSays r ≡ f
       filing-one-to-one r (answer.Filed (record { units = n })) (says ∙ ap (said totals) e ∙ ap (λ (m : ℕ). done (record { units = m })) c)
 
   of-full : r ≡ fullAnswer → (length s ≤ longestStream) × ((n : ℕ) × ReadingOf s n × (length lent < 3 * n))
-  unfolding filed NotFull
+  unfolding filed
   of-full e =
-      let k = said-iff totals (walkInto s (length lent)) (RefusesInto s (length lent)) (into-stopped-iff s (length lent)) FULL 0 .0 (sym says ∙ ap filingSays e) in
-      by-cause (k .0) (k .1) (k .2)
+      let k = said-iff totals (walkInto s (length lent)) (RefusesInto s (length lent)) (into-stopped-iff s (length lent)) FULL (at-offset 0 ∷ []) .0 (sym says ∙ ap filingSays e) in
+      by-cause (k .0) (k .1) (k .2) (k .3)
     where
-      by-cause : (why : Inner) → RefusesInto s (length lent) why 0 → FULL ≡ inside.reasonNumber why → (length s ≤ longestStream) × ((n : ℕ) × ReadingOf s n × (length lent < 3 * n))
-      by-cause why (refuses k) n = absurd (refuses-never k (sym n))
-      by-cause why (full l x k b w p) n = (l, (length (units x), (x, k, refl), b))
+      by-cause : (why : Reason) (at : ℕ) → RefusesInto s (length lent) why at → FULL ≡ reasonNumber why → (length s ≤ longestStream) × ((n : ℕ) × ReadingOf s n × (length lent < 3 * n))
+      by-cause why at (refuses k) n = absurd (refuses-fair k .0 (sym n))
+      by-cause why at (full l x k b w p) n = (l, (length (units x), (x, k, refl), b))
 
   to-full : (length s ≤ longestStream) × ((n : ℕ) × ReadingOf s n × (length lent < 3 * n)) → r ≡ fullAnswer
   unfolding filed
   to-full h =
       let x = h .1 .1 .0 in
       let c : length (units x) ≡ h .1 .0 = h .1 .1 .2 in
-      let e = into-stopped-iff s (length lent) inner.Full 0 .1 (full (h .0) x (h .1 .1 .1) (omega (arith, h .1 .2)) refl refl) in
+      let e = into-stopped-iff s (length lent) reason.Full 0 .1 (full (h .0) x (h .1 .1 .1) (omega (arith, h .1 .2)) refl refl) in
       filing-one-to-one r fullAnswer (says ∙ ap (said totals) e)
 
   of-rows : (n : ℕ) → r ≡ answer.Filed (record { units = n }) → (x : Reading) → Reads s x → after ≡ words (rows x) ++ drop (3 * n) lent
@@ -277,10 +230,10 @@ module _ (s lent after : List ℕ) (r : FilingAnswer) (says : filingSays r ≡ f
 
 -- ── refusals ──
 
-pub refused-by : (s : List ℕ) (lent : ℕ) (r : FilingAnswer) → filingSays r ≡ filed s lent → (why : Refusal) → (r ≡ answer.Refused why) ↔ ByNumber (RefusesInto s lent) (reasonNumber (why .reason)) (why .offset)
+pub refused-by : (s : List ℕ) (lent : ℕ) (r : FilingAnswer) → filingSays r ≡ filed s lent → (why : Refusal) → (r ≡ answer.Refused why) ↔ ByNumber (RefusesInto s lent) (reasonNumber (why .reason)) (carries (why .reason) (why .offset))
 unfolding filed
 refused-by s lent r says why =
-    let k = said-iff totals (walkInto s lent) (RefusesInto s lent) (into-stopped-iff s lent) (reasonNumber (why .reason)) (why .offset) in
+    let k = said-iff totals (walkInto s lent) (RefusesInto s lent) (into-stopped-iff s lent) (reasonNumber (why .reason)) (carries (why .reason) (why .offset)) in
     ((λ e. k .0 (sym says ∙ ap filingSays e)), λ h. filing-one-to-one r (answer.Refused why) (says ∙ k .1 h))
 
 -- an answer with its words, and what they say of readings
@@ -303,5 +256,5 @@ counted-iff s n = (
   λ h. ap (said length) (walked-iff s (placedUnits (h .1 .0)) .1 (h .0, (h .1 .0, h .1 .1, refl))) ∙ ap done (units-length (h .1 .0) ∙ h .1 .2),
 )
 
-pub uncounted-iff : (s : List ℕ) (n at : ℕ) → (said length (walk s) ≡ refused n (at ∷ [])) ↔ ByNumber (Refuses s) n at
+pub uncounted-iff : (s : List ℕ) (n : ℕ) (carried : List Carried) → (said length (walk s) ≡ refused n carried) ↔ ByNumber (Refuses s) n carried
 uncounted-iff s = said-iff length (walk s) (Refuses s) (stopped-iff s)

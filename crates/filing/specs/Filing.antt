@@ -2,36 +2,20 @@
 use Prim.Native.Nat.{ℕ, _*_, _≤_, _<_}
 use mathlib.Core.Path.{_≡_}
 use mathlib.Core.Logic.{_↔_}
-use mathlib.Core.List.{List, [], _∷_, _++_}
+use mathlib.Core.List.{List, _++_}
 use lib.ListN.{length, drop}
-use Rattle.answers.specs.Answers.{Outcome, done, refused, NO-CODE, CUT, OVERLAP, UNKNOWN, OUT-OF-PLACE, SHORT, MARKER, VALUE, STUFFING, TWICE, UNENDED, FULL, TOO-LONG}
+use Rattle.answers.specs.Answers.{Outcome, done, refused}
 use Rattle.answers.specs.Limits.{longestStream}
 use Rattle.grammar.specs.Grammar.{Reading, Reads, units}
 use Rattle.grammar.specs.Rows.{Row, Placed, words, rows as rowsOf}
-use Rattle.filing.specs.declared.Reason.{Reason}
-use Rattle.filing.specs.declared.Reason.the-variants as reason
+use Rattle.grammar.specs.Reasons.{reasonNumber, carries}
+use Rattle.grammar.specs.declared.Reason.the-variants as reason
 use Rattle.filing.specs.declared.Refusal.{Refusal}
 use Rattle.filing.specs.declared.Totals.{Totals}
 use Rattle.filing.specs.declared.Checked.{Checked}
 use Rattle.filing.specs.declared.Checked.the-variants as checked
 use Rattle.filing.specs.declared.FilingAnswer.{FilingAnswer}
 use Rattle.filing.specs.declared.FilingAnswer.the-variants as answer
-
--- the number of each reason
-abbrev pub reasonNumber : Reason → ℕ
-reasonNumber reason.NoCode = NO-CODE
-reasonNumber reason.Cut = CUT
-reasonNumber reason.Overlap = OVERLAP
-reasonNumber reason.Unknown = UNKNOWN
-reasonNumber reason.OutOfPlace = OUT-OF-PLACE
-reasonNumber reason.Short = SHORT
-reasonNumber reason.Marker = MARKER
-reasonNumber reason.Value = VALUE
-reasonNumber reason.Stuffing = STUFFING
-reasonNumber reason.Twice = TWICE
-reasonNumber reason.Unended = UNENDED
-reasonNumber reason.Full = FULL
-reasonNumber reason.TooLong = TOO-LONG
 
 -- the answer gives the number of units
 abbrev pub totals : List Placed → Totals
@@ -45,12 +29,12 @@ wordsAfter (refused number carried) lent = lent
 -- the numbers of filing's answers
 abbrev pub filingSays : FilingAnswer → Outcome Totals
 filingSays (answer.Filed t) = done t
-filingSays (answer.Refused r) = refused (reasonNumber (r .reason)) (r .offset ∷ [])
+filingSays (answer.Refused r) = refused (reasonNumber (r .reason)) (carries (r .reason) (r .offset))
 
 -- the numbers of the answers where no row is written
 abbrev pub checkedSays : Checked → Outcome ℕ
 checkedSays (checked.Good units) = done units
-checkedSays (checked.Refused r) = refused (reasonNumber (r .reason)) (r .offset ∷ [])
+checkedSays (checked.Refused r) = refused (reasonNumber (r .reason)) (carries (r .reason) (r .offset))
 
 -- ── the same in the grammar's own words ──
 

@@ -12,13 +12,13 @@ use Rattle.bodies.specs.declared.Scope.{Scope}
 use Rattle.bodies.specs.declared.Scope.the-variants as scope
 use Rattle.grammar.specs.Rows.{Placed}
 use Rattle.grammar.specs.Reader.{Stopped, stopAt, walkOfAny}
-use Rattle.filing.specs.declared.Walked.{Walked}
-use Rattle.filing.specs.declared.Walked.the-variants as walked
+use Rattle.filing.specs.declared.Checked.{Checked}
+use Rattle.filing.specs.declared.Checked.the-variants as checked
 
 -- the first pass: how many units, or why it stops and where
-abbrev pub walkedSays : Walked → Result Stopped ℕ
-walkedSays (walked.Good units) = good units
-walkedSays (walked.Stopped why at) = stopAt why at
+abbrev pub checkedGives : Checked → Result Stopped ℕ
+checkedGives (checked.Good units) = good units
+checkedGives (checked.Refused r) = stopAt (r .reason) (r .offset)
 
 -- the scope of the extensions after a unit of this kind
 abbrev pub scopeAfter : Scope → Outcome Kind → Scope

@@ -1,7 +1,7 @@
 // Filing of one video sequence: its units are checked, counted, and then written as rows.
 use bodies::Scope;
+use grammar::Reason;
 use grammar::State;
-use layout::Fault;
 use startcode::Kind;
 use startcode::UnitKind;
 use units::UnitAnswer;
@@ -13,29 +13,11 @@ ghost use lib.ListN.{length, take, drop};
 ghost use Rattle.answers.specs.Answers.{done};
 ghost use Rattle.answers.specs.Results.{mapGood};
 ghost use Rattle.startcode.specs.Kinds.{kindOf};
-ghost use Rattle.bodies.specs.Answers.{faultNumber};
 ghost use Rattle.grammar.specs.Rows.{rowsFrom};
-ghost use Rattle.grammar.specs.Reasons as inside;
-ghost use Rattle.grammar.specs.Reader.{final, said, walkOfAny, walk, filingInto};
-ghost use Rattle.filing.specs.Filing.{reasonNumber, filingSays, checkedSays, wordsAfter, FiledByReading};
+ghost use Rattle.grammar.specs.Reader.{final, stopAt, said, walkOfAny, walk, filingInto};
+ghost use Rattle.filing.specs.Filing.{filingSays, checkedSays, wordsAfter, FiledByReading};
 ghost use Rattle.filing.specs.Reader.{filed};
-ghost use Rattle.filing.specs.Inside.{walkedSays, scopeAfter, Writable};
-
-pub enum Reason {
-    NoCode,
-    Cut,
-    Overlap,
-    Unknown,
-    OutOfPlace,
-    Short,
-    Marker,
-    Value,
-    Stuffing,
-    Twice,
-    Unended,
-    Full,
-    TooLong,
-}
+ghost use Rattle.filing.specs.Inside.{checkedGives, scopeAfter, Writable};
 
 // A refusal and its offset in the stream.
 pub struct Refusal {
@@ -58,46 +40,6 @@ pub enum Checked {
     Refused(Refusal),
 }
 
-// The number of units, or why the walk stops and where.
-enum Walked {
-    Good(usize),
-    Stopped(grammar::Reason, usize),
-}
-
-// ── reasons ──
-
-// The public reason of what is wrong with a body; the field and its bit are not answered.
-fn body_reason(fault: Fault) -> Reason
-    ensures { λ r. ⌜ reasonNumber r ≡ faultNumber fault ⌝ }
-{
-    match fault {
-        Fault::Short => Reason::Short,
-        Fault::Marker(_) => Reason::Marker,
-        Fault::Value(_, _) => Reason::Value,
-        Fault::Stuffing => Reason::Stuffing,
-    }
-}
-
-// The public reason of why the walk stops.
-fn reason_of(why: grammar::Reason) -> Reason
-    ensures { λ r. ⌜ reasonNumber r ≡ inside.reasonNumber why ⌝ }
-{
-    match why {
-        grammar::Reason::NoCode => Reason::NoCode,
-        grammar::Reason::Cut => Reason::Cut,
-        grammar::Reason::Overlap => Reason::Overlap,
-        grammar::Reason::Unknown => Reason::Unknown,
-        grammar::Reason::OutOfPlace => Reason::OutOfPlace,
-        grammar::Reason::Body(fault) => body_reason(fault),
-        grammar::Reason::SliceOrder => Reason::Value,
-        grammar::Reason::SliceRow => Reason::Value,
-        grammar::Reason::Twice => Reason::Twice,
-        grammar::Reason::Unended => Reason::Unended,
-        grammar::Reason::Full => Reason::Full,
-        grammar::Reason::TooLong => Reason::TooLong,
-    }
-}
-
 // ── the first pass ──
 
 fn is_final(state: State) -> bool
@@ -113,12 +55,22 @@ fn is_final(state: State) -> bool
     }
 }
 
+// A stream is refused at an offset.
+fn refused_at(reason: Reason, offset: usize) -> Checked
+    ensures { λ r. ⌜ checkedGives r ≡ stopAt reason offset ⌝ }
+{
+    Checked::Refused(Refusal {
+        reason: reason,
+        offset: offset,
+    })
+}
+
 // Each unit is checked, and the units are counted; no lent word is touched.
-fn check_units(stream: &[u8]) -> Walked
-    ensures { λ r. ⌜ walkedSays r ≡ mapGood length (walkOfAny (now (stream .entry))) ⌝ }
+fn check_units(stream: &[u8]) -> Checked
+    ensures { λ r. ⌜ checkedGives r ≡ mapGood length (walkOfAny (now (stream .entry))) ⌝ }
 {
     if !startcode::prefix_at(stream, 0) {
-        return Walked::Stopped(grammar::Reason::NoCode, 0);
+        return refused_at(Reason::NoCode, 0);
     }
     let mut state = State::Start;
     let mut at: usize = 0;
@@ -131,17 +83,17 @@ fn check_units(stream: &[u8]) -> Walked
                 units += 1;
             }
             UnitAnswer::Refused(why) => {
-                return Walked::Stopped(why, at);
+                return refused_at(why, at);
             }
             UnitAnswer::NoUnit => {
-                return Walked::Stopped(grammar::Reason::NoCode, at);
+                return refused_at(Reason::NoCode, at);
             }
         }
     }
     if is_final(state) {
-        return Walked::Good(units);
+        return Checked::Good(units);
     }
-    Walked::Stopped(grammar::Reason::Unended, at)
+    refused_at(Reason::Unended, at)
 }
 
 // A stream is checked and no row is written: filing's answer, FULL aside.
@@ -154,13 +106,7 @@ pub fn check(stream: &[u8]) -> Checked
             offset: 0,
         });
     }
-    match check_units(stream) {
-        Walked::Good(units) => Checked::Good(units),
-        Walked::Stopped(why, offset) => Checked::Refused(Refusal {
-            reason: reason_of(why),
-            offset: offset,
-        }),
-    }
+    check_units(stream)
 }
 
 // ── the second pass ──

@@ -3,20 +3,19 @@ use Prim.Native.Nat.{ℕ}
 use mathlib.Core.Path.{_≡_, refl, sym, _∙_, ap, subst}
 use mathlib.Core.Logic.{_⊎_, inl, inr, _↔_}
 use mathlib.Core.List.{List, _∷_, _++_}
-use mathlib.Core.Bool.{false}
+use mathlib.Core.Bool.{false, cond}
 use mathlib.Core.Option.{Option, some}
 use native.Mathlib.Omega.{arith}
-use borrow.Author.Tests.{eqb-true, eq-eqb, le-ltb}
+use borrow.Author.Tests.{eqb-true, eqb-false, eq-eqb, le-ltb}
 use lib.Dec.{eqb}
 use lib.ListN.{length, getD, replicate}
 use Rattle.answers.proofs.ResultLaws.{not-good, bind-good}
-use Rattle.bits.specs.Bits.{bitsIn, bitsOf, bitAt}
 use Rattle.bits.specs.declared.Bit.the-variants as bit
 use Rattle.bits.specs.declared.Read.the-variants.{Value}
 use Rattle.bits.proofs.TestLaws.{by-test}
-use Rattle.layout.specs.Reader.{refuseIf, readValue}
-use Rattle.bodies.specs.Reader.{recordOf, numberOf, headerResult, byNumber, notCopyright, extensionResult, readBit, displayShort, displayOf, plainOf, colouredOf, copyrightOf}
-use Rattle.bodies.specs.Extensions.{numbered}
+use Rattle.layout.specs.Reader.{readValue}
+use Rattle.bodies.specs.Reader.{recordOf, numberOf, headerResult, byNumber, notCopyright, extensionResult, displayShort, displayOf, plainOf, colouredOf, copyrightOf}
+use Rattle.bodies.specs.Extensions.{numbered, ColourGiven}
 use Rattle.bodies.proofs.NumberLaws.{number-iff, number-one, number-byte, numbered-by}
 use Rattle.bodies.specs.Answers as answers
 use Rattle.layout.specs.Layouts.{fields, leastBytes}
@@ -24,18 +23,16 @@ use Rattle.layout.specs.Obeys.{Fits, AllAllowed, written, Obeys}
 use Rattle.answers.specs.Results.{good, _>>=_}
 use Rattle.bodies.specs.Records.{headerRecord, plainRecord, colouredRecord, copyrightRecord}
 use Rattle.layout.specs.declared.Layout.{Layout}
-use Rattle.layout.specs.declared.Fault.the-variants as fault
 use Rattle.layout.specs.declared.Layout.the-variants.{Header, Display, Coloured, Copyright}
 use Rattle.bodies.specs.declared.Scope.{Scope}
 use Rattle.bodies.specs.declared.Scope.the-variants as scope
 use Rattle.bodies.specs.declared.SequenceHeader.{SequenceHeader}
-use Rattle.bodies.proofs.AnswerLaws.{short-by}
+use Rattle.bodies.proofs.AnswerLaws.{short-by, not-short, colour-there}
 use Rattle.bodies.proofs.AnswerLaws as laws
 use Rattle.layout.proofs.LayoutLaws.{fits-length, spell, spelled}
 use Rattle.bodies.proofs.BreakLaws.{copyright-made, number-there}
-use Rattle.bodies.proofs.ExtensionLaws.{plain-made, coloured-made, display-bit, coloured-bit, record-if, if-record}
+use Rattle.bodies.proofs.ExtensionLaws.{plain-made, coloured-made, record-if, if-record}
 use Rattle.layout.proofs.ReadingLaws.{value-good}
-use Rattle.layout.proofs.ObeyLaws.{then-good}
 use Rattle.grammar.specs.Grammar.{Extension, IsHeader, IsCopyright, IsDisplay}
 
 -- ── sequence header ──
@@ -120,30 +117,31 @@ unfolding colouredOf
 coloured-good body = layout-good Coloured colouredRecord answers.display body coloured-made
 
 -- by the colour bit, the one layout or the other
-plain-display : (body vs : List ℕ) → Obeys Display body vs → displayOf body ≡ plainOf body
+plain-display : (body vs : List ℕ) → ColourGiven body 0 → Obeys Display body vs → displayOf body ≡ plainOf body
 unfolding leastBytes
-plain-display body vs h =
-    let b = display-bit body vs h in
-    laws.display-long body (bit.Is 0) (short-by body (bit.Is 0) (h .long) b) b
+plain-display body vs c h = laws.display-long body (bit.Is 0) (short-by body (bit.Is 0) (h .long) c) c
 
-coloured-display : (body vs : List ℕ) → Obeys Coloured body vs → displayOf body ≡ colouredOf body
+coloured-display : (body vs : List ℕ) → ColourGiven body 1 → Obeys Coloured body vs → displayOf body ≡ colouredOf body
 unfolding leastBytes
-coloured-display body vs h =
-    let b = coloured-bit body vs h in
+coloured-display body vs c h =
     let l = h .long in
-    laws.display-long body (bit.Is 1) (short-by body (bit.Is 1) (omega arith) b ∙ le-ltb (length body) 9 l) b
+    laws.display-long body (bit.Is 1) (short-by body (bit.Is 1) (omega arith) c ∙ le-ltb (length body) 9 l) c
 
 pub display-good : (body : List ℕ) → ((x : answers.Extension) × (displayOf body ≡ good x)) ↔ IsDisplay body
 display-good body = (from-result, λ h. from-layout (h .0) (h .1))
   where
     from-result : ((x : answers.Extension) × (displayOf body ≡ good x)) → IsDisplay body
-    from-result h = unfold displayOf in
-        let s = then-good (refuseIf (displayShort body) fault.Short) _ (h .0) (h .1) in
-        let r = bind-good (readBit (bitAt (bitsOf body) 8)) _ (h .0) (s .1) in
-        by-test (eqb (r .0) 1)
-        (λ t. let o = coloured-good body .0 (h .0, rw t at (r .2)) in (o .0, inr (o .1)))
-        (λ f. let o = plain-good body .0 (h .0, rw f at (r .2)) in (o .0, inl (o .1)))
+    from-result (x, e) =
+        let f = display-long body x e in
+        let (given, c, small) = colour-there body (not-short body f) in
+        let r : cond (eqb given 1) (colouredOf body) (plainOf body) ≡ good x = sym (laws.display-long body (bit.Is given) f c) ∙ e in
+        by-test (eqb given 1)
+        (λ t. let o = coloured-good body .0 (x, rw t at r) in (o .0, inr (subst (ColourGiven body) (eqb-true given 1 t) c, o .1)))
+        (λ g.
+        let not-one = eqb-false given 1 g in
+        let none : given ≡ 0 = omega arith in
+        let o = plain-good body .0 (x, rw g at r) in (o .0, inl (subst (ColourGiven body) none c, o .1)))
 
-    from-layout : (vs : List ℕ) → Obeys Display body vs ⊎ Obeys Coloured body vs → (x : answers.Extension) × (displayOf body ≡ good x)
-    from-layout vs (inl h) = let x = plain-good body .1 (vs, h) in (x .0, plain-display body vs h ∙ x .1)
-    from-layout vs (inr h) = let x = coloured-good body .1 (vs, h) in (x .0, coloured-display body vs h ∙ x .1)
+    from-layout : (vs : List ℕ) → (ColourGiven body 0 × Obeys Display body vs) ⊎ (ColourGiven body 1 × Obeys Coloured body vs) → (x : answers.Extension) × (displayOf body ≡ good x)
+    from-layout vs (inl (c, h)) = let x = plain-good body .1 (vs, h) in (x .0, plain-display body vs c h ∙ x .1)
+    from-layout vs (inr (c, h)) = let x = coloured-good body .1 (vs, h) in (x .0, coloured-display body vs c h ∙ x .1)

@@ -12,4 +12,5 @@ pub mod ShapeLaws
 pub mod RefusalsOfUnits
 pub mod RefusalsOfBytes
 pub mod Refusals
+pub mod ReasonLaws
 pub mod Main

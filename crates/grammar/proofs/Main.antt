@@ -1,19 +1,20 @@
 -- What is proved of recordings: how many readings they have, when they are filed, and when each refusal is given.
-use Prim.Native.Nat.{ℕ, _≤_}
+use Prim.Native.Nat.{ℕ, _≤_, _<_}
 use mathlib.Core.Path.{_≡_}
 use mathlib.Core.Logic.{_↔_}
 use mathlib.Core.List.{List, [], _∷_, _++_, map}
 use lib.ListN.{length}
-use Rattle.answers.specs.Answers.{done, refused}
+use Rattle.answers.specs.Answers.{Carried, at-bit, done, refused}
 use Rattle.answers.specs.Limits.{longestStream}
 use Rattle.answers.specs.Results.{good}
 use Rattle.grammar.specs.Grammar.{StreamUnit, Alone, Reading, Reads, units}
 use Rattle.grammar.specs.Rows.{Row, Placed, placedUnits, rows, rowLength, LengthIs}
-use Rattle.grammar.specs.Reasons.{ByNumber}
+use Rattle.grammar.specs.Reasons.{reasonNumber, reasonBit, ByNumber, BitNumber}
 use Rattle.grammar.specs.Reader.{stopAt, walk, walkInto, filing, filingInto}
 use Rattle.grammar.specs.Refusals.{BeginsSentence, Breaks, Refuses, RefusesInto}
 use Rattle.grammar.specs.declared.Reason.{Reason}
 use Rattle.grammar.proofs.Filing as filed
+use Rattle.grammar.proofs.ReasonLaws as reasons
 use Rattle.grammar.proofs.Refusals as refusals
 use Rattle.grammar.proofs.RefusalsOfUnits as stops
 use Rattle.grammar.proofs.RowLaws as lengths
@@ -54,18 +55,20 @@ stopped-iff = refusals.stopped-iff
 pub into-stopped-iff : (stream : List ℕ) (lent : ℕ) (why : Reason) (at : ℕ) → (walkInto stream lent ≡ stopAt why at) ↔ RefusesInto stream lent why at
 into-stopped-iff = refusals.into-stopped-iff
 
--- The stream is refused with the reason's number, and with one offset.
-pub refused-iff : (stream : List ℕ) (n at : ℕ) → (filing stream ≡ refused n (at ∷ [])) ↔ ByNumber (Refuses stream) n at
+-- The stream is refused with the reason's number, and carries the offset and, of MARKER and VALUE, the bit.
+pub refused-iff : (stream : List ℕ) (n : ℕ) (carried : List Carried) → (filing stream ≡ refused n carried) ↔ ByNumber (Refuses stream) n carried
 refused-iff = refusals.refused-iff
 
-pub one-offset : (stream : List ℕ) (n : ℕ) (carried : List ℕ) → filing stream ≡ refused n carried → (at : ℕ) × (carried ≡ at ∷ [])
-one-offset = refusals.one-offset
-
-pub into-iff : (stream : List ℕ) (lent n at : ℕ) → (filingInto stream lent ≡ refused n (at ∷ [])) ↔ ByNumber (RefusesInto stream lent) n at
+pub into-iff : (stream : List ℕ) (lent n : ℕ) (carried : List Carried) → (filingInto stream lent ≡ refused n carried) ↔ ByNumber (RefusesInto stream lent) n carried
 into-iff = refusals.into-iff
 
-pub into-one-offset : (stream : List ℕ) (lent n : ℕ) (carried : List ℕ) → filingInto stream lent ≡ refused n carried → (at : ℕ) × (carried ≡ at ∷ [])
-into-one-offset = refusals.into-one-offset
+-- MARKER and VALUE carry a bit, and no other refusal does.
+pub bit-iff : (why : Reason) → ((b : ℕ) × (reasonBit why ≡ at-bit b ∷ [])) ↔ BitNumber (reasonNumber why)
+bit-iff = reasons.bit-iff
+
+-- It is a bit of the body's layout, of which none has more than 112, or 0 for a slice.
+pub bit-inside : (stream : List ℕ) (why : Reason) (at b : ℕ) → Refuses stream why at → reasonBit why ≡ at-bit b ∷ [] → b < 112
+bit-inside stream why at b h = reasons.refuses-fair h .1 b
 
 -- ── the first unit that breaks a rule ──
 

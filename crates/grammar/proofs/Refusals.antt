@@ -8,7 +8,7 @@ use native.Mathlib.Omega.{arith}
 use lib.Dec.{ltb}
 use lib.ListN.{length, length-append}
 use borrow.Author.Tests.{ltb-true, ltb-false, lt-ltb, le-ltb}
-use Rattle.answers.specs.Answers.{refused}
+use Rattle.answers.specs.Answers.{Carried, refused}
 use Rattle.answers.specs.Limits.{longestStream}
 use Rattle.answers.specs.Results.{good, bad}
 use Rattle.answers.proofs.OutcomeLaws.{not-refused}
@@ -19,7 +19,7 @@ use Rattle.startcode.specs.Prefix.{begins}
 use Rattle.grammar.specs.Lists.{concatMap}
 use Rattle.grammar.specs.Grammar.{StreamUnit, bytes, Alone, units}
 use Rattle.grammar.specs.Rows.{Placed, placed, placedUnits, rowsFrom}
-use Rattle.grammar.specs.Reasons.{reasonNumber, ByNumber}
+use Rattle.grammar.specs.Reasons.{reasonNumber, carries, ByNumber}
 use Rattle.grammar.specs.Reader.{cut, final, step, scopeIn, Stopped, Walk, stopAt, addUnit, continue, walkFrom, walkOfAny, walk, said, filing, within, walkInto, filingInto}
 use Rattle.grammar.specs.declared.Step.{Step}
 use Rattle.grammar.specs.declared.Step.the-variants.{Go as go, Stop as stop}
@@ -196,34 +196,27 @@ stops-into s lent why at (full l r k b m p) = rw (walked-iff s (placedUnits r) .
 pub into-stopped-iff : (s : List ℕ) (lent : ℕ) (why : Reason) (at : ℕ) → (walkInto s lent ≡ stopAt why at) ↔ RefusesInto s lent why at
 into-stopped-iff s lent why at = (into-stops s lent (record { reason = why; offset = at }), stops-into s lent why at)
 
--- ── the same by document 01's numbers ──
+-- ── the same by the papers' numbers ──
 
 module _ {A : Type 0} (view : List Placed → A) where
   -- what is said of a walk that stops
-  pub said-refused : (w : Walk) (n : ℕ) (carried : List ℕ) → said view w ≡ refused n carried → (x : Stopped) × (w ≡ bad x) × (n ≡ reasonNumber (x .reason)) × (carried ≡ x .offset ∷ [])
+  pub said-refused : (w : Walk) (n : ℕ) (carried : List Carried) → said view w ≡ refused n carried →
+      (x : Stopped) × (w ≡ bad x) × (n ≡ reasonNumber (x .reason)) × (carried ≡ carries (x .reason) (x .offset))
   said-refused (good ms) n carried e = not-refused e
   said-refused (bad x) n carried e = (x, refl, cc, cc)
 
-  pub said-iff : (w : Walk) (Refused : Reason → ℕ → Type 0) → ((why : Reason) (at : ℕ) → (w ≡ stopAt why at) ↔ Refused why at) → (n at : ℕ) → (said view w ≡ refused n (at ∷ [])) ↔ ByNumber Refused n at
-  said-iff w Refused iff n at = (
-    (λ e. let (x, s, m, c) = said-refused w n (at ∷ []) e in let i : x .offset ≡ at = cc in (x .reason, rw i at (iff (x .reason) (x .offset) .0 s), m)),
-    λ h. ap (said view) (iff (h .0) at .1 (h .1)) ∙ ap (λ (n : ℕ). refused n (at ∷ [])) (sym (h .2)),
+  pub said-iff : (w : Walk) (Refused : Reason → ℕ → Type 0) → ((why : Reason) (at : ℕ) → (w ≡ stopAt why at) ↔ Refused why at) → (n : ℕ) (carried : List Carried) →
+      (said view w ≡ refused n carried) ↔ ByNumber Refused n carried
+  said-iff w Refused iff n carried = (
+    (λ e. let (x, s, m, c) = said-refused w n carried e in (x .reason, x .offset, iff (x .reason) (x .offset) .0 s, m, c)),
+    λ h. ap (said view) (iff (h .0) (h .1) .1 (h .2)) ∙ rw (← h .3, ← h .4),
   )
 
--- a stream is refused with this number and this offset exactly when document 01 says
-pub refused-iff : (s : List ℕ) (n at : ℕ) → (filing s ≡ refused n (at ∷ [])) ↔ ByNumber (Refuses s) n at
+-- a stream is refused with this number, and carries this, exactly when the papers say
+pub refused-iff : (s : List ℕ) (n : ℕ) (carried : List Carried) → (filing s ≡ refused n carried) ↔ ByNumber (Refuses s) n carried
 unfolding filing
 refused-iff s = said-iff (rowsFrom 0) (walk s) (Refuses s) (stopped-iff s)
 
--- and every refusal carries one offset
-pub one-offset : (s : List ℕ) (n : ℕ) (carried : List ℕ) → filing s ≡ refused n carried → (at : ℕ) × (carried ≡ at ∷ [])
-unfolding filing
-one-offset s n carried e = let r = said-refused (rowsFrom 0) (walk s) n carried e in (r .0 .offset, r .3)
-
-pub into-iff : (s : List ℕ) (lent n at : ℕ) → (filingInto s lent ≡ refused n (at ∷ [])) ↔ ByNumber (RefusesInto s lent) n at
+pub into-iff : (s : List ℕ) (lent n : ℕ) (carried : List Carried) → (filingInto s lent ≡ refused n carried) ↔ ByNumber (RefusesInto s lent) n carried
 unfolding filingInto
 into-iff s lent = said-iff (rowsFrom 0) (walkInto s lent) (RefusesInto s lent) (into-stopped-iff s lent)
-
-pub into-one-offset : (s : List ℕ) (lent n : ℕ) (carried : List ℕ) → filingInto s lent ≡ refused n carried → (at : ℕ) × (carried ≡ at ∷ [])
-unfolding filingInto
-into-one-offset s lent n carried e = let r = said-refused (rowsFrom 0) (walkInto s lent) n carried e in (r .0 .offset, r .3)

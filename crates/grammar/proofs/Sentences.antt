@@ -9,7 +9,7 @@ use native.Mathlib.Omega.{arith}
 use Rattle.bits.specs.Lists.{All}
 use Rattle.bits.specs.Bits.{bitsIn, bitsOf, readOn, readAt}
 use Rattle.bits.proofs.ListLaws.{all-append, absent}
-use Rattle.layout.specs.Reader.{allows, valuesOf, judge, judged, cross, ended, reading}
+use Rattle.layout.specs.Reader.{ruled, allows, valuesOf, judge, judged, cross, ended, reading}
 use Rattle.bodies.specs.Reader.{recordOf, headerResult}
 use Rattle.layout.specs.Layouts.{fields, leastBytes}
 use Rattle.layout.specs.Obeys.{AllAllowed}
@@ -266,7 +266,7 @@ abbrev pub plainHeader : SequenceHeader
 plainHeader = record { profile = 72; level = 64; progressive = 0; horizontal = 1920; vertical = 4000; chroma = 1; precision = 1; aspect = 1; rate = 1; bitrate = 20000; delay = 0; buffer = 1 }
 
 plain-result : headerResult plainBody ≡ good plainHeader
-unfolding plainBody recordOf reading headerRecord valuesOf fields leastBytes bitsOf bitsIn readAt readOn judged judge allows cross ended
+unfolding plainBody recordOf reading headerRecord valuesOf fields leastBytes bitsOf bitsIn readAt readOn judged judge ruled allows cross ended
 plain-result = refl
 
 pub plain-header : IsHeader plainBody plainHeader

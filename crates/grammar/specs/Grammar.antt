@@ -11,7 +11,7 @@ use Rattle.bits.specs.Lists.{All}
 use Rattle.startcode.specs.Kinds.{kindOf}
 use Rattle.startcode.specs.declared.Kind.{Kind}
 use Rattle.startcode.specs.declared.Kind.the-variants as kind
-use Rattle.bodies.specs.Extensions.{HasNumber}
+use Rattle.bodies.specs.Extensions.{HasNumber, ColourGiven}
 use Rattle.layout.specs.Obeys.{Obeys}
 use Rattle.bodies.specs.Records.{headerRecord}
 use Rattle.layout.specs.declared.Layout.the-variants.{Header, Display, Coloured, Copyright}
@@ -72,9 +72,9 @@ IsHeader body header = (vs : List ℕ) × Obeys Header body vs × (headerRecord 
 abbrev pub IsCopyright : List ℕ → Type 0
 IsCopyright body = (vs : List ℕ) × Obeys Copyright body vs
 
--- a display extension, without colour or with it
+-- a display extension, without colour or with it, as colour given says
 abbrev pub IsDisplay : List ℕ → Type 0
-IsDisplay body = (vs : List ℕ) × (Obeys Display body vs ⊎ Obeys Coloured body vs)
+IsDisplay body = (vs : List ℕ) × ((ColourGiven body 0 × Obeys Display body vs) ⊎ (ColourGiven body 1 × Obeys Coloured body vs))
 
 -- An extension body has at least one byte; number 4 anywhere is copyright.
 pub record Extension (body : List ℕ) : Type 0 where

@@ -21,7 +21,7 @@ use Rattle.bodies.specs.declared.Scope.{Scope}
 use Rattle.bodies.specs.declared.Scope.the-variants as scope
 use Rattle.grammar.specs.Grammar.{StreamUnit, bytes, sliceRule}
 use Rattle.grammar.specs.Rows.{Row, Placed, placed, rowsFrom}
-use Rattle.grammar.specs.Reasons.{reasonNumber}
+use Rattle.grammar.specs.Reasons.{reasonNumber, carries}
 use Rattle.grammar.specs.declared.SliceRule.{SliceRule}
 use Rattle.grammar.specs.declared.State.{State}
 use Rattle.grammar.specs.declared.State.the-variants as state
@@ -202,12 +202,12 @@ walkOfAny stream = cond (begins stream) (walkFrom (cut stream .chunks) state.Sta
 unfoldable pub walk : List ℕ → Walk
 walk stream = cond (ltb longestStream (length stream)) (stopAt reason.TooLong 0) (walkOfAny stream)
 
--- ── the answer: rows, or a refusal with its number and its offset ──
+-- ── the answer: rows, or a refusal with its number and what it carries ──
 
--- what is seen of the units, in document 01's terms
+-- what is seen of the units, in the papers' terms
 abbrev pub said : {A : Type 0} → (List Placed → A) → Walk → Outcome A
 said view (good ms) = done (view ms)
-said view (bad s) = refused (reasonNumber (s .reason)) (s .offset ∷ [])
+said view (bad s) = refused (reasonNumber (s .reason)) (carries (s .reason) (s .offset))
 
 -- the rows of a stream, whatever is lent for them
 unfoldable pub filing : List ℕ → Outcome (List Row)

@@ -98,7 +98,7 @@ NotEmpty body why = (body ≢ []) × (why ≡ reason.Body fault.Stuffing)
 abbrev pub NotGreater : List StreamUnit → StreamUnit → Type 0
 NotGreater us u = (before : List StreamUnit) × (s : StreamUnit) × (us ≡ before ++ s ∷ []) × IsKind kind.Slice s × (u .code ≤ s .code)
 
--- ".. and less than the group's macroblock rows, otherwise VALUE": the order comes before the row
+-- ".. and less than the group's macroblock rows, otherwise VALUE": "order tested first"
 pub data OutOfOrder (us : List StreamUnit) (u : StreamUnit) (rows : ℕ) (why : Reason) : Type 0 where
   order : NotGreater us u → why ≡ reason.SliceOrder → OutOfOrder us u rows why
   row : ¬ NotGreater us u → rows ≤ u .code → why ≡ reason.SliceRow → OutOfOrder us u rows why
@@ -134,7 +134,7 @@ BreaksBody kind.EditCode us u why = NotEmpty (u .body) why
 
 -- ── the first rule that a unit breaks ──
 
--- "inside a unit .. 4, 5, 6, 10, then fields in bit order (7 and 8), then 9"
+-- "inside a unit .. 4, 5, 6, 10, then fields in bit order (7 and 8, which E1 numbers by field), then 9"
 pub data Breaks (us : List StreamUnit) (u : StreamUnit) (why : Reason) : Type 0 where
   unknown : kindOf (u .code) ≡ refused UNKNOWN [] → why ≡ reason.Unknown → Breaks us u why
   out-of-place : (k : Kind) → IsKind k u → ¬ InPlace us u → why ≡ reason.OutOfPlace → Breaks us u why

@@ -1,5 +1,7 @@
 // What a walk over a stream's units knows at each of them, and why it stops.
 use layout::Fault;
+ghost use mathlib.Core.Path.{_≡_};
+ghost use Rattle.grammar.specs.Reasons.{reasonNumber};
 
 // A group's slice rule: whether slices are tested, and the macroblock rows.
 pub struct SliceRule {
@@ -39,4 +41,24 @@ pub enum Reason {
 pub enum Step {
     Go(State),
     Stop(Reason),
+}
+
+// The number of what a stream is refused for.
+pub fn reason_number(why: Reason) -> u32
+    ensures { λ r. ⌜ r ≡ reasonNumber why ⌝ }
+{
+    match why {
+        Reason::NoCode => 1,
+        Reason::Cut => 2,
+        Reason::Overlap => 3,
+        Reason::Unknown => 4,
+        Reason::OutOfPlace => 5,
+        Reason::Body(fault) => bodies::fault_number(fault),
+        Reason::SliceOrder => 31,
+        Reason::SliceRow => 32,
+        Reason::Twice => 10,
+        Reason::Unended => 11,
+        Reason::Full => 12,
+        Reason::TooLong => 13,
+    }
 }

@@ -4,7 +4,7 @@ use mathlib.Core.Path.{_≡_}
 use mathlib.Core.Logic.{_↔_}
 use mathlib.Core.List.{List, [], _∷_}
 use lib.ListN.{length}
-use Rattle.answers.specs.Answers.{refused, OneToOne}
+use Rattle.answers.specs.Answers.{Carried, refused, NO-ROW, OneToOne}
 use Rattle.answers.specs.Limits.{longestStream}
 use Rattle.grammar.specs.Grammar.{Reading, Reads}
 use Rattle.grammar.specs.Reasons.{ByNumber}
@@ -21,9 +21,13 @@ group-is s r h k g = proof.group-is s g r h k
 pub group-exactly : (s : List ℕ) (g : ℕ) → GroupByReading s g (groupAt s g)
 group-exactly = proof.group-exactly
 
--- A refusal with an offset is the stream's, rows aside.
-pub group-refused : (s : List ℕ) (g n offset : ℕ) → (groupAt s g ≡ refused n (offset ∷ [])) ↔ ByNumber (Refuses s) n offset
+-- A refusal that carries something is the stream's, rows aside.
+pub group-refused : (s : List ℕ) (g n : ℕ) (first : Carried) (more : List Carried) → (groupAt s g ≡ refused n (first ∷ more)) ↔ ByNumber (Refuses s) n (first ∷ more)
 group-refused = proof.group-refused
+
+-- One that carries nothing is NO ROW.
+pub group-no-row : (s : List ℕ) (g n : ℕ) → groupAt s g ≡ refused n [] → n ≡ NO-ROW
+group-no-row = proof.group-no-row
 
 -- No two answers say the same.
 pub group-one-to-one : OneToOne groupSays

@@ -13,14 +13,14 @@ use Rattle.bits.proofs.ListLaws.{all-append, all-map, absent}
 use Rattle.bits.proofs.TestLaws.{by-test}
 use Rattle.startcode.specs.declared.Kind.{Kind}
 use Rattle.startcode.specs.declared.Kind.the-variants as kind
-use Rattle.bodies.specs.Answers.{Extension, display, copyright, opaque}
-use Rattle.bodies.specs.Extensions.{numbered}
+use Rattle.bodies.specs.Answers.{answerOf, Extension, display, copyright, opaque}
+use Rattle.bodies.specs.Extensions.{HasNumber, numbered}
 use Rattle.bodies.specs.Bodies.{DisplayBody, plain, coloured}
-use Rattle.bodies.specs.Reader.{answerOf, headerOf, extensionOf}
+use Rattle.bodies.specs.Reader.{headerOf, extensionOf}
 use Rattle.bodies.specs.declared.DisplayExtension.{DisplayExtension}
 use Rattle.bodies.specs.declared.Scope.the-variants as scope
 use Rattle.bodies.specs.declared.SequenceHeader.{SequenceHeader}
-use Rattle.bodies.proofs.ExtensionLaws.{plain-made, coloured-made, display-number, coloured-number}
+use Rattle.bodies.proofs.ExtensionLaws.{plain-made, coloured-made}
 use Rattle.bodies.proofs.Main.{display-iff}
 use Rattle.grammar.specs.Lists.{AtMostOne, concatMap}
 use Rattle.grammar.specs.Grammar.{StreamUnit, IsKind, Picture, Group, pictureUnits, groupUnits, IsHeader, IsDisplay, PictureExtra, IsSlice, IsPictureHead, IsPicture, HeadExtra, DisplayUnit, FirstIsI, IsGroup, IsEnding, sliceRule}
@@ -95,8 +95,8 @@ pictures-past (p ∷ ps) rest f = past (p .head) _ f
 
 -- the number of a display extension's body is 2
 display-two : (body : List ℕ) (d : DisplayExtension) → DisplayBody body d → numbered 2 body ≡ true
-display-two body d (plain vs o r) = display-number body vs o .bits
-display-two body d (coloured vs o r) = coloured-number body vs o .bits
+display-two body d (plain n c vs o r) = n .bits
+display-two body d (coloured n c vs o r) = n .bits
 
 -- an extension that is no display extension
 shown-other : (o : Outcome Extension) (rest : Display) → ((d : DisplayExtension) → o ≡ done (display d) → ⊥) → shown o rest ≡ rest
@@ -140,9 +140,9 @@ display-is extras tail (Given d) t h o k =
 display-is extras tail NotGiven t h o k = none-shown extras tail t h k
 
 -- a head has a display extension or none
-display-of : (body : List ℕ) → IsDisplay body → (d : DisplayExtension) × DisplayBody body d
-display-of body (vs, inl h) = let m = plain-made vs (h .fits) in (m .0, plain vs h (m .1))
-display-of body (vs, inr h) = let m = coloured-made vs (h .fits) in (m .0, coloured vs h (m .1))
+display-of : (body : List ℕ) → HasNumber body 2 → IsDisplay body → (d : DisplayExtension) × DisplayBody body d
+display-of body n (vs, inl (c, h)) = let m = plain-made vs (h .fits) in (m .0, plain n c vs h (m .1))
+display-of body n (vs, inr (c, h)) = let m = coloured-made vs (h .fits) in (m .0, coloured n c vs h (m .1))
 
 not-this : (u : StreamUnit) (us : List StreamUnit) → ¬ DisplayUnit u → (d : Display) → DisplayIs us d → DisplayIs (u ∷ us) d
 not-this u us n (Given d) k = record { before = u ∷ k .before; unit = k .unit; after = k .after; is = ap (λ (l : List StreamUnit). u ∷ l) (k .is); display = k .display; body = k .body }
@@ -150,7 +150,7 @@ not-this u us n NotGiven k = (n, k)
 
 this : (u : StreamUnit) (us : List StreamUnit) → HeadExtra u → DisplayUnit u → (d : Display) × DisplayIs (u ∷ us) d
 this u us (inl c) k = apart kind.UserData kind.Extension refl c (k .0)
-this u us (inr h) k = let m = display-of (u .body) (h .2 (k .1)) in (Given (m .0), record { before = []; unit = u; after = us; is = refl; display = k; body = m .1 })
+this u us (inr h) k = let m = display-of (u .body) (k .1) (h .2 (k .1)) in (Given (m .0), record { before = []; unit = u; after = us; is = refl; display = k; body = m .1 })
 
 display-or-not : (u : StreamUnit) → HeadExtra u → Dec (DisplayUnit u)
 display-or-not u (inl c) = no (λ k. apart kind.UserData kind.Extension refl c (k .0))

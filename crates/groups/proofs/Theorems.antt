@@ -5,7 +5,7 @@ use mathlib.Core.Logic.{_↔_}
 use mathlib.Core.List.{List, [], _∷_, map}
 use lib.ListN.{length}
 use native.Mathlib.Omega.{arith}
-use Rattle.answers.specs.Answers.{Outcome, done, refused, andThen, OneToOne, NO-ROW}
+use Rattle.answers.specs.Answers.{Carried, Outcome, done, refused, andThen, OneToOne, NO-ROW}
 use Rattle.answers.specs.Limits.{longestStream}
 use Rattle.answers.specs.Results.{good, bad}
 use Rattle.answers.proofs.OutcomeLaws.{not-done, not-refused, undone}
@@ -16,7 +16,7 @@ use Rattle.bodies.specs.Reader.{headerOf}
 use Rattle.bodies.specs.declared.SequenceHeader.{SequenceHeader}
 use Rattle.grammar.specs.Grammar.{StreamUnit, Reading, Reads, units}
 use Rattle.grammar.specs.Rows.{Placed, placedUnits}
-use Rattle.grammar.specs.Reasons as reasons
+use Rattle.grammar.specs.Reasons.{reasonNumber, carries, ByNumber}
 use Rattle.grammar.specs.Refusals.{Refuses}
 use Rattle.grammar.specs.Reader.{Cut, cut, Walk, stopAt, walkOfAny, walk, said}
 use Rattle.grammar.specs.declared.Reason.the-variants.{NoCode}
@@ -55,34 +55,53 @@ module _ (s : List ℕ) (g : ℕ) where
 
 -- ── refusals ──
 
-not-offset : {P A : Type 0} {m p n : ℕ} {ps : List ℕ} → _≡_ {A = Outcome A} (refused m (p ∷ ps)) (refused n []) → P
-not-offset {p = p} {ps = ps} e = let z : _≡_ {A = List ℕ} (p ∷ ps) [] = cc in let y : _≡_ {A = ℕ} 0 1 = cc in absurd (omega arith)
+not-offset : {P A : Type 0} {m n : ℕ} {c : Carried} {cs : List Carried} → _≡_ {A = Outcome A} (refused m (c ∷ cs)) (refused n []) → P
+not-offset {c = c} {cs = cs} e = let z : _≡_ {A = List Carried} (c ∷ cs) [] = cc in let y : _≡_ {A = ℕ} 0 1 = cc in absurd (omega arith)
 
-group-no-offset : {P : Type 0} (o : Outcome SequenceHeader) (d : Display) (n offset : ℕ) → groupOf o d ≡ refused n (offset ∷ []) → P
-group-no-offset (done header) d n offset e = not-refused e
-group-no-offset (refused m carried) d n offset e = not-offset (sym e)
+module _ (n : ℕ) (first : Carried) (more : List Carried) where
+  group-no-offset : {P : Type 0} (o : Outcome SequenceHeader) (d : Display) → groupOf o d ≡ refused n (first ∷ more) → P
+  group-no-offset (done header) d e = not-refused e
+  group-no-offset (refused m carried) d e = not-offset (sym e)
 
--- what is answered of the units of a stream has no offset
-units-no-offset : {P : Type 0} (g : ℕ) (us : List StreamUnit) (n offset : ℕ) → groupIn g us ≡ refused n (offset ∷ []) → P
-unfolding groupIn
-units-no-offset g [] n offset e = not-offset (sym e)
-units-no-offset zero (u ∷ us) n offset e = by-test (beginsGroup u) (λ t. group-no-offset (headerOf (u .body)) (displayIn us) n offset (rw t at e)) (λ f. units-no-offset zero us n offset (rw f at e))
-units-no-offset (suc g) (u ∷ us) n offset e = by-test (beginsGroup u) (λ t. units-no-offset g us n offset (rw t at e)) (λ f. units-no-offset (suc g) us n offset (rw f at e))
+  -- what is answered of the units of a stream carries nothing
+  units-no-offset : {P : Type 0} (g : ℕ) (us : List StreamUnit) → groupIn g us ≡ refused n (first ∷ more) → P
+  unfolding groupIn
+  units-no-offset g [] e = not-offset (sym e)
+  units-no-offset zero (u ∷ us) e = by-test (beginsGroup u) (λ t. group-no-offset (headerOf (u .body)) (displayIn us) (rw t at e)) (λ f. units-no-offset zero us (rw f at e))
+  units-no-offset (suc g) (u ∷ us) e = by-test (beginsGroup u) (λ t. units-no-offset g us (rw t at e)) (λ f. units-no-offset (suc g) us (rw f at e))
 
-module _ (g : ℕ) where
-  from-units : (o : Outcome (List StreamUnit)) (n offset : ℕ) → (andThen o (groupIn g) ≡ refused n (offset ∷ [])) ↔ (o ≡ refused n (offset ∷ []))
-  from-units (done us) n offset = ((λ e. units-no-offset g us n offset e), λ e. not-refused e)
-  from-units (refused m carried) n offset = (
-    (λ e. let p : m ≡ n = cc in let q : carried ≡ offset ∷ [] = cc in rw (p, q)),
-    λ e. let p : m ≡ n = cc in let q : carried ≡ offset ∷ [] = cc in rw (p, q),
+  from-units : (g : ℕ) (o : Outcome (List StreamUnit)) → (andThen o (groupIn g) ≡ refused n (first ∷ more)) ↔ (o ≡ refused n (first ∷ more))
+  from-units g (done us) = ((λ e. units-no-offset g us e), λ e. not-refused e)
+  from-units g (refused m carried) = (
+    (λ e. let p : m ≡ n = cc in let q : carried ≡ first ∷ more = cc in rw (p, q)),
+    λ e. let p : m ≡ n = cc in let q : carried ≡ first ∷ more = cc in rw (p, q),
   )
 
-pub group-refused : (s : List ℕ) (g n offset : ℕ) → (groupAt s g ≡ refused n (offset ∷ [])) ↔ reasons.ByNumber (Refuses s) n offset
+pub group-refused : (s : List ℕ) (g n : ℕ) (first : Carried) (more : List Carried) → (groupAt s g ≡ refused n (first ∷ more)) ↔ ByNumber (Refuses s) n (first ∷ more)
 unfolding groupAt
-group-refused s g n offset =
-    let f = from-units g (said (map unitOf) (walk s)) n offset in
-    let k = said-iff (map unitOf) (walk s) (Refuses s) (stopped-iff s) n offset in
+group-refused s g n first more =
+    let f = from-units n first more g (said (map unitOf) (walk s)) in
+    let k = said-iff (map unitOf) (walk s) (Refuses s) (stopped-iff s) n (first ∷ more) in
     ((λ e. k .0 (f .0 e)), λ h. f .1 (k .1 h))
+
+-- a refusal that carries nothing is NO ROW
+row-number : (n : ℕ) (g : ℕ) (us : List StreamUnit) → groupIn g us ≡ refused n [] → n ≡ NO-ROW
+unfolding groupIn
+row-number n g [] e = cc
+row-number n zero (u ∷ us) e = by-test (beginsGroup u) (λ t. of-group (headerOf (u .body)) (rw t at e)) (λ f. row-number n zero us (rw f at e))
+  where
+    of-group : (o : Outcome SequenceHeader) → groupOf o (displayIn us) ≡ refused n [] → n ≡ NO-ROW
+    of-group (done header) e = not-refused e
+    of-group (refused m carried) e = cc
+row-number n (suc g) (u ∷ us) e = by-test (beginsGroup u) (λ t. row-number n g us (rw t at e)) (λ f. row-number n (suc g) us (rw f at e))
+
+pub group-no-row : (s : List ℕ) (g n : ℕ) → groupAt s g ≡ refused n [] → n ≡ NO-ROW
+unfolding groupAt
+group-no-row s g n e = by-walk (walk s) e
+  where
+    by-walk : (w : Walk) → andThen (said (map unitOf) w) (groupIn g) ≡ refused n [] → n ≡ NO-ROW
+    by-walk (good ms) e = row-number n g (map unitOf ms) e
+    by-walk (bad x) e = not-offset e
 
 -- ── any stream ──
 
@@ -118,7 +137,7 @@ module _ (s : List ℕ) (g : ℕ) where
       (λ e. let k = row-read e (walk s) refl in (k .0, (k .1 .0, k .1 .1, group-is s g (k .1 .0) (k .0) (k .1 .1) .no-row .0 e))),
       λ h. group-is s g (h .1 .0) (h .0) (h .1 .1) .no-row .1 (h .1 .2),
     );
-    refusal = λ n offset. group-refused s g n offset;
+    refusal = group-refused s g;
   }
 
 -- ── what the code walks over ──
@@ -145,13 +164,13 @@ module _ (s : List ℕ) (g n : ℕ) (e : done n ≡ said length (walk s)) where
   unfolding walkOfAny
   here-start = let k = walk-good s (found .0) (found .1) .1 in record { inside = omega arith; prefix = λ l. by-test (begins s) (λ b. b) (λ f. let z : stopAt NoCode 0 ≡ good (found .0) = rw f at k in not-good z) }
 
-pub at-refused : (s : List ℕ) (g n : ℕ) (carried : List ℕ) → refused n carried ≡ said length (walk s) → refused n carried ≡ groupAt s g
+pub at-refused : (s : List ℕ) (g n : ℕ) (carried : List Carried) → refused n carried ≡ said length (walk s) → refused n carried ≡ groupAt s g
 unfolding groupAt
 at-refused s g n carried e = by-outcome (walk s) e
   where
     by-outcome : (w : Walk) → refused n carried ≡ said length w → refused n carried ≡ andThen (said (map unitOf) w) (groupIn g)
     by-outcome (good ms) e = not-done e
-    by-outcome (bad x) e = let p : n ≡ reasons.reasonNumber (x .reason) = cc in let q : carried ≡ x .offset ∷ [] = cc in rw (p, q)
+    by-outcome (bad x) e = let p : n ≡ reasonNumber (x .reason) = cc in let q : carried ≡ carries (x .reason) (x .offset) = cc in rw (p, q)
 
 -- ── answers and their numbers ──
 
@@ -161,7 +180,7 @@ group-one-to-one = undone groupSays back is
     back : Outcome GroupRecord → GroupAnswer
     back (done x) = answer.Group (x .header) (x .display)
     back (refused n []) = answer.NoRow
-    back (refused n (offset ∷ more)) = answer.Refused (refusalOf n (offset ∷ more))
+    back (refused n (first ∷ more)) = answer.Refused (refusalOf n (first ∷ more))
 
     is : (a : GroupAnswer) → back (groupSays a) ≡ a
     is (answer.Group h d) = refl

@@ -5,16 +5,15 @@ use mathlib.Core.Path.{_≡_}
 use mathlib.Core.Logic.{_↔_}
 use mathlib.Core.List.{List, [], _∷_, _++_}
 use lib.ListN.{length}
-use Rattle.answers.specs.Answers.{Outcome, done, refused, NO-ROW}
+use Rattle.answers.specs.Answers.{Carried, Outcome, done, refused, NO-ROW}
 use Rattle.answers.specs.Limits.{longestStream}
 use Rattle.bits.specs.Lists.{All}
 use Rattle.bodies.specs.Bodies.{DisplayBody}
 use Rattle.bodies.specs.declared.DisplayExtension.{DisplayExtension}
 use Rattle.bodies.specs.declared.SequenceHeader.{SequenceHeader}
 use Rattle.grammar.specs.Grammar.{StreamUnit, Group, Reading, Reads, IsHeader, DisplayUnit}
-use Rattle.grammar.specs.Reasons as reasons
+use Rattle.grammar.specs.Reasons.{reasonNumber, carries, ByNumber}
 use Rattle.grammar.specs.Refusals.{Refuses}
-use Rattle.filing.specs.Filing.{reasonNumber}
 use Rattle.groups.specs.declared.Display.{Display}
 use Rattle.groups.specs.declared.Display.the-variants as displayed
 use Rattle.groups.specs.declared.GroupAnswer.{GroupAnswer}
@@ -29,7 +28,7 @@ pub record GroupRecord : Type 0 where
 abbrev pub groupSays : GroupAnswer → Outcome GroupRecord
 groupSays (answer.Group header d) = done (record { header = header; display = d })
 groupSays answer.NoRow = refused NO-ROW []
-groupSays (answer.Refused r) = refused (reasonNumber (r .reason)) (r .offset ∷ [])
+groupSays (answer.Refused r) = refused (reasonNumber (r .reason)) (carries (r .reason) (r .offset))
 
 -- ── group g of a reading ──
 
@@ -73,5 +72,5 @@ pub record GroupByReading (stream : List ℕ) (g : ℕ) (o : Outcome GroupRecord
       (o ≡ done x) ↔ ((length stream ≤ longestStream) × ((r : Reading) × Reads stream r × ((group : Group) × NthGroup g (r .groups) group × GroupIs group x)))
   -- NO ROW exactly where it is within the limit and has a reading with no group g
   pub no-row : (o ≡ refused NO-ROW []) ↔ ((length stream ≤ longestStream) × ((r : Reading) × Reads stream r × (length (r .groups) ≤ g)))
-  -- any other refusal exactly where the stream is refused, rows aside, with its number and its offset
-  pub refusal : (n offset : ℕ) → (o ≡ refused n (offset ∷ [])) ↔ reasons.ByNumber (Refuses stream) n offset
+  -- any other refusal, which carries something, exactly where the stream is refused, rows aside, with this number and what it carries
+  pub refusal : (n : ℕ) (first : Carried) (more : List Carried) → (o ≡ refused n (first ∷ more)) ↔ ByNumber (Refuses stream) n (first ∷ more)

@@ -10,7 +10,7 @@ use borrow.Author.Tests.{le-leb, lt-leb}
 use borrow.Rule.Slice.PartMut.{midOf, putMid}
 use lib.ListN.{length, getD, take, drop, set, length-append}
 use lib.Seq.{take-all, take-at, drop-at, drop-drop, drop-length}
-use Rattle.answers.specs.Answers.{Outcome, done, refused, mapDone, FULL}
+use Rattle.answers.specs.Answers.{Carried, Outcome, done, refused, mapDone, FULL}
 use Rattle.statuses.specs.declared.Answer.{Answer}
 use Rattle.statuses.specs.Answers.{counted}
 use Rattle.handover.specs.Answers.{handed, over, left, answered, after}
@@ -67,6 +67,6 @@ handed-full vs lent h d =
     (d ∙ sym (ap (λ o. counted (mapDone length o)) e), sym (ap (λ o. left o lent) e))
 
 -- a refusal leaves all
-pub handed-refused : {r : Answer} (number : ℕ) (carried lent : List ℕ) → r ≡ counted (refused number carried) → Handed r lent (refused number carried) lent
+pub handed-refused : {r : Answer} (number : ℕ) (carried : List Carried) (lent : List ℕ) → r ≡ counted (refused number carried) → Handed r lent (refused number carried) lent
 unfolding answered after
 handed-refused number carried lent d = (d, refl)

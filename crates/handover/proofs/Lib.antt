@@ -1,4 +1,5 @@
 -- The laws that the proofs cite, and the theorems.
 pub mod HandedLaws
 pub mod CountLaws
+pub mod MarkLaws
 pub mod Main

@@ -1,20 +1,29 @@
--- The front page: the count of numbers handed over says what is given.
+-- The front page: the count of numbers handed over says what is given, and the bit of a refusal is there exactly for MARKER and VALUE.
 use Prim.Native.Nat.{ℕ, _≤_}
 use mathlib.Core.Path.{_≡_}
 use mathlib.Core.Logic.{_↔_}
 use mathlib.Core.List.{List}
 use lib.ListN.{length}
-use Rattle.answers.specs.Answers.{done}
+use Rattle.answers.specs.Answers.{done, mapDone}
+use Rattle.layout.specs.declared.Layout.the-variants.{Header}
 use Rattle.bodies.specs.Answers.{Extension, copyright, opaque}
+use Rattle.bodies.specs.Reader.{headerOf, extensionOf}
+use Rattle.bodies.specs.declared.Scope.{Scope}
 use Rattle.bodies.specs.declared.CopyrightExtension.{CopyrightExtension}
+use Rattle.bodies.proofs.Main as bodies
+use Rattle.bodies.proofs.PlaceLaws.{layout-inside, extension-inside}
 use Rattle.ratios.specs.Ratios.{frameRate, displayRatio}
 use Rattle.ratios.specs.declared.Ratio.the-variants as ratio
 use Rattle.groups.specs.Groups.{GroupRecord}
+use Rattle.groups.specs.Reader.{groupAt}
 use Rattle.groups.specs.declared.Display.the-variants as shown
-use Rattle.statuses.specs.Answers.{counted}
+use Rattle.statuses.specs.Answers.{counted, BitMarked}
+use Rattle.statuses.proofs.MarkLaws.{marked-fault}
 use Rattle.handover.specs.Answers.{answered}
-use Rattle.handover.specs.Numbers.{ratioNumbers, groupNumbers, extensionNumbers}
+use Rattle.handover.specs.Numbers.{headerNumbers, ratioNumbers, groupNumbers, extensionNumbers}
 use Rattle.handover.proofs.CountLaws as counts
+use Rattle.handover.proofs.MarkLaws as marks
+use Rattle.handover.proofs.MarkLaws.{marked-answer}
 use Rattle.handover.proofs.CountLaws.{Plain, Coloured, Shown, Displays, count-is}
 
 -- Frame rates and display ratios: done with count 0 exactly when none is given, whatever is lent.
@@ -50,3 +59,17 @@ module _ (y : Extension) (lent : List ℕ) (room : length (extensionNumbers y) �
 
   pub extension-coloured : (answered (done (extensionNumbers y)) lent .count ≡ 9) ↔ Displays Coloured y
   extension-coloured = count-is (extensionNumbers y) lent room (counts.extension-coloured y)
+
+-- The bit of a group's, a sequence header's and an extension's answer: one of the fields' bits exactly for MARKER and VALUE, else the mark.
+pub group-marked : (stream : List ℕ) (g : ℕ) (lent : List ℕ) → BitMarked (answered (mapDone groupNumbers (groupAt stream g)) lent)
+group-marked stream g lent = marked-answer groupNumbers (groupAt stream g) lent (marks.group-marked stream g)
+
+pub header-marked : (body lent : List ℕ) → BitMarked (answered (mapDone headerNumbers (headerOf body)) lent)
+header-marked body lent =
+    marked-answer headerNumbers (headerOf body) lent
+    (λ n carried e. let (why, b, m, c) = bodies.header-refused-iff body n carried .0 e in marked-fault why n carried (layout-inside Header body why b) m c)
+
+pub extension-marked : (scope : Scope) (body lent : List ℕ) → BitMarked (answered (mapDone extensionNumbers (extensionOf scope body)) lent)
+extension-marked scope body lent =
+    marked-answer extensionNumbers (extensionOf scope body) lent
+    (λ n carried e. let (why, b, m, c) = bodies.extension-refused-iff scope body n carried .0 e in marked-fault why n carried (extension-inside scope body why b) m c)

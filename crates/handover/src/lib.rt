@@ -49,7 +49,7 @@ fn hand_both(values: &[u32], more: &[u32], numbers: &mut [u64]) -> Answer
     let n = values.len();
     let count = n + more.len();
     if numbers.len() < count {
-        return statuses::refusal(12, 0);
+        return statuses::refusal(12);
     }
     write_over(values, numbers);
     write_over(more, &mut numbers[n..]);
@@ -121,7 +121,7 @@ fn hand_copyright(c: CopyrightExtension, numbers: &mut [u64]) -> Answer
     ensures { λ r. ⌜ Handed r (now (numbers .exit)) (done (4 ∷ copyrightNumbers c)) (now (numbers .entry)) ⌝ }
 {
     if numbers.len() < 5 {
-        return statuses::refusal(12, 0);
+        return statuses::refusal(12);
     }
     let values = [4, c.flag, c.owner, c.original];
     write_over(&values, numbers);
@@ -145,7 +145,7 @@ pub fn group(stream: &[u8], g: usize, numbers: &mut [u64]) -> Answer
 {
     match groups::group_at(stream, g) {
         GroupAnswer::Group(header, display) => hand_group(header, display, numbers),
-        GroupAnswer::NoRow => statuses::refusal(16, 0),
+        GroupAnswer::NoRow => statuses::refusal(16),
         GroupAnswer::Refused(why) => statuses::refused_stream(why),
     }
 }

@@ -2,7 +2,7 @@
 use Prim.Native.Nat.{ℕ, _+_, _≤_, _<_}
 use mathlib.Core.Path.{_≡_, refl, sym, ap, _∙_, subst}
 use mathlib.Core.List.{List, [], _∷_, _++_}
-use mathlib.Core.Bool.{Bool, true, false, cond, not}
+use mathlib.Core.Bool.{Bool, true, false, not}
 use mathlib.Core.Option.{Option, none, some}
 use native.Mathlib.Omega.{arith}
 use borrow.Author.Tests.{eqb-true, eqb-false, eq-eqb, ne-eqb, ltb-true, ltb-false, not-true}
@@ -17,17 +17,17 @@ use Rattle.bits.specs.declared.Read.the-variants as read
 use Rattle.bits.proofs.TestLaws.{by-test, contrary}
 use Rattle.bits.proofs.BitLaws.{length-bits, never-wide}
 use Rattle.bits.proofs.Main.{missing-exactly}
-use Rattle.layout.specs.Layouts.{nameOf, widthOf, ruleOf, Allowed, byRule, faultAt, fields, bitCount, leastBytes}
+use Rattle.layout.specs.Layouts.{widthOf, ruleOf, Allowed, Keeps, Wrong, fields, bitCount, leastBytes}
 use Rattle.layout.specs.Values.{Ownership, ownership}
 use Rattle.layout.specs.Obeys.{Fits, AllAllowed, written}
 use Rattle.layout.specs.Breaks.{Holds, FirstWrong, Disowned, unflagged, unowned, BreaksAcross, Breaks, short, wrong, across, ended}
-use Rattle.layout.specs.Reader.{allows, Result, _>>_, refuseIf, both, valuesOf, judge, ownerRules, ownedBy, cross, judged, stuffing, reading}
+use Rattle.layout.specs.Reader.{allows, ruled, Result, _>>_, refuseIf, both, valuesOf, judge, ownerRules, ownedBy, cross, judged, stuffing, reading}
 use Rattle.answers.specs.Results.{good, bad, _>>=_}
 use Rattle.layout.specs.Reader as reader
-use Rattle.layout.specs.declared.Name.{Name}
-use Rattle.layout.specs.declared.Name.the-variants.{Owner, CopyrightNumber}
+use Rattle.layout.specs.declared.JudgedField.the-variants.{CopyrightOwner, CopyrightNumber}
 use Rattle.layout.specs.declared.Values.{Values}
-use Rattle.layout.specs.declared.Values.the-variants as rule
+use Rattle.layout.specs.declared.Rule.{Rule}
+use Rattle.layout.specs.declared.Rule.the-variants as rule
 use Rattle.layout.specs.declared.Field.{Field}
 use Rattle.layout.specs.declared.Layout.{Layout}
 use Rattle.layout.specs.declared.Layout.the-variants.{Header, Display, Coloured, Copyright}
@@ -39,7 +39,7 @@ use Rattle.layout.proofs.LayoutLaws.{table, fits-length, spelled}
 use Rattle.layout.proofs.ReadingLaws.{values-first}
 use Rattle.layout.proofs.JudgeLaws.{checked, reading-short, reading-long}
 use Rattle.layout.proofs.OwnerLaws.{unowned-rules, owned-rules}
-use Rattle.layout.proofs.ObeyLaws.{fine-then, both-fine, read-written, written-read, written-length, allowed-if, if-allowed, judge-fine, fine-judge, cross-fine, fine-cross, stuffing-is, is-stuffing}
+use Rattle.layout.proofs.ObeyLaws.{fine-then, both-fine, read-written, written-read, written-length, allowed-if, if-allowed, kept-if, if-kept, judge-fine, fine-judge, cross-fine, fine-cross, stuffing-is, is-stuffing}
 
 -- ── a body that is long enough has all its values ──
 
@@ -86,10 +86,41 @@ then-bad v r why e = rw e
 faulty-same : (a b : Fault) → Faulty a ≡ Faulty b → a ≡ b
 faulty-same a b e = cc
 
--- ── the first field that is ruled out ──
+if-same : (t : Bool) (a why : Fault) → refuseIf t a ≡ Faulty why → (t ≡ true) × (why ≡ a)
+if-same true a why e = (refl, sym (faulty-same a why e))
+if-same false a why e = let z : _≡_ {A = ℕ} 0 1 = cc in absurd (omega arith)
 
--- one more field before the first that is ruled out
-one-more : (f : Field) (fs : List Field) (at v : ℕ) (vs : List ℕ) (why : Fault) → Allowed (ruleOf f) v → FirstWrong fs (at + widthOf f) vs why → FirstWrong (f ∷ fs) at (v ∷ vs) why
+both-split : {P : Type 0} (v w : Verdict) (why : Fault) → both v w ≡ Faulty why → (v ≡ Faulty why → P) → (v ≡ Fine → w ≡ Faulty why → P) → P
+both-split Fine w why e f g = g refl e
+both-split (Faulty a) w why e f g = f e
+
+-- ── a rule that is broken ──
+
+wrong-if : (r : Rule) (v at : ℕ) (why : Fault) → ruled r v at ≡ Faulty why → Wrong r v at why
+unfolding ruled
+wrong-if rule.Any v at why e = let z : _≡_ {A = ℕ} 0 1 = cc in absurd (omega arith)
+wrong-if rule.Set v at why e = let r = if-same (not (eqb v 1)) (fault.Marker at) why e in (eqb-false v 1 (not-true _ (r .0)), r .1)
+wrong-if (rule.Judged field values) v at why e =
+    let r = if-same (not (allows values v)) (fault.Value field at) why e in
+    ((λ a. contrary (allows values v) (if-allowed values v a) (not-true _ (r .0))), r .1)
+
+not-allowed : (values : Values) (v : ℕ) → (Allowed values v → ⊥) → allows values v ≡ false
+not-allowed values v n = by-test (allows values v) (λ t. absurd (n (allowed-if values v t))) (λ e. e)
+
+if-wrong : (r : Rule) (v at : ℕ) (why : Fault) → Wrong r v at why → ruled r v at ≡ Faulty why
+unfolding ruled
+if-wrong rule.Any v at why h = absurd h
+if-wrong rule.Set v at why h = ap (λ (t : Bool). refuseIf (not t) (fault.Marker at)) (ne-eqb v 1 (h .0)) ∙ ap Faulty (sym (h .1))
+if-wrong (rule.Judged field values) v at why h = ap (λ (t : Bool). refuseIf (not t) (fault.Value field at)) (not-allowed values v (h .0)) ∙ ap Faulty (sym (h .1))
+
+-- the same at a bit that is written otherwise
+wrong-at : (r : Rule) (v : ℕ) (why : Fault) {a b : ℕ} → a ≡ b → Wrong r v a why → Wrong r v b why
+wrong-at r v why e h = subst (λ (k : ℕ). Wrong r v k why) e h
+
+-- ── the first field whose rule is broken ──
+
+-- one more field before it
+one-more : (f : Field) (fs : List Field) (at v : ℕ) (vs : List ℕ) (why : Fault) → Keeps (ruleOf f) v → FirstWrong fs (at + widthOf f) vs why → FirstWrong (f ∷ fs) at (v ∷ vs) why
 unfolding AllAllowed
 one-more f fs at v vs why a w =
     record {
@@ -102,13 +133,12 @@ one-more f fs at v vs why a w =
       all-fields = ap (λ (l : List Field). f ∷ l) (w .all-fields);
       all-values = ap (λ (l : List ℕ). v ∷ l) (w .all-values);
       allowed = (a, w .allowed);
-      ruled-out = w .ruled-out;
-      refused = w .refused ∙ ap (faultAt (w .field)) (let e : at + widthOf f + bitCount (w .before) ≡ at + (widthOf f + bitCount (w .before)) = omega arith in e);
+      broken = wrong-at (ruleOf (w .field)) (w .value) why (let e : at + widthOf f + bitCount (w .before) ≡ at + (widthOf f + bitCount (w .before)) = omega arith in e) (w .broken);
     }
 
-here : (f : Field) (fs : List Field) (at v : ℕ) (vs : List ℕ) → (Allowed (ruleOf f) v → ⊥) → FirstWrong (f ∷ fs) at (v ∷ vs) (faultAt f at)
+here : (f : Field) (fs : List Field) (at v : ℕ) (vs : List ℕ) (why : Fault) → Wrong (ruleOf f) v at why → FirstWrong (f ∷ fs) at (v ∷ vs) why
 unfolding AllAllowed
-here f fs at v vs n =
+here f fs at v vs why h =
     record {
       before = [];
       field = f;
@@ -119,8 +149,7 @@ here f fs at v vs n =
       all-fields = refl;
       all-values = refl;
       allowed = tt;
-      ruled-out = n;
-      refused = ap (faultAt f) (let e : at ≡ at + 0 = omega arith in e);
+      broken = wrong-at (ruleOf f) v why (let e : at ≡ at + 0 = omega arith in e) h;
     }
 
 judge-first : (fs : List Field) (at : ℕ) (vs : List ℕ) (why : Fault) → Fits fs vs → judge fs at vs ≡ Faulty why → FirstWrong fs at vs why
@@ -129,41 +158,30 @@ judge-first [] at [] why h e = let z : _≡_ {A = ℕ} 0 1 = cc in absurd (omega
 judge-first [] at (v ∷ vs) why h e = absurd h
 judge-first (f ∷ fs) at [] why h e = absurd h
 judge-first (f ∷ fs) at (v ∷ vs) why h e =
-    by-test (allows (ruleOf f) v)
-    (λ t. one-more f fs at v vs why (allowed-if (ruleOf f) v t) (judge-first fs (at + widthOf f) vs why (h .1) (sym (ap (λ (b : Bool). cond b (judge fs (at + widthOf f) vs) (Faulty (faultAt f at))) t) ∙ e)))
-    (λ n.
-    subst (FirstWrong (f ∷ fs) at (v ∷ vs)) (faulty-same (faultAt f at) why (sym (ap (λ (b : Bool). cond b (judge fs (at + widthOf f) vs) (Faulty (faultAt f at))) n) ∙ e))
-    (here f fs at v vs (λ a. contrary (allows (ruleOf f) v) (if-allowed (ruleOf f) v a) n)))
+    both-split (ruled (ruleOf f) v at) (judge fs (at + widthOf f) vs) why e
+    (λ b. here f fs at v vs why (wrong-if (ruleOf f) v at why b))
+    (λ k j. one-more f fs at v vs why (kept-if (ruleOf f) v at k) (judge-first fs (at + widthOf f) vs why (h .1) j))
 
-not-allowed : (f : Field) (v : ℕ) → (Allowed (ruleOf f) v → ⊥) → allows (ruleOf f) v ≡ false
-not-allowed f v n = by-test (allows (ruleOf f) v) (λ t. absurd (n (allowed-if (ruleOf f) v t))) (λ e. e)
-
-first-judge : (before : List Field) (field : Field) (after : List Field) (at : ℕ) (earlier : List ℕ) (value : ℕ) (later : List ℕ) →
-    AllAllowed before earlier → (Allowed (ruleOf field) value → ⊥) → judge (before ++ (field ∷ after)) at (earlier ++ (value ∷ later)) ≡ Faulty (faultAt field (at + bitCount before))
+first-judge : (before : List Field) (field : Field) (after : List Field) (at : ℕ) (earlier : List ℕ) (value : ℕ) (later : List ℕ) (why : Fault) →
+    AllAllowed before earlier → Wrong (ruleOf field) value (at + bitCount before) why → judge (before ++ (field ∷ after)) at (earlier ++ (value ∷ later)) ≡ Faulty why
 unfolding judge AllAllowed
-first-judge [] field after at [] value later h n =
-    let e : at ≡ at + 0 = omega arith in
-    ap (λ (b : Bool). cond b (judge after (at + widthOf field) later) (Faulty (faultAt field at))) (not-allowed field value n) ∙ ap (λ (k : ℕ). Faulty (faultAt field k)) e
-first-judge [] field after at (v ∷ vs) value later h n = absurd h
-first-judge (f ∷ fs) field after at [] value later h n = absurd h
-first-judge (f ∷ fs) field after at (v ∷ vs) value later h n =
-    let e : at + widthOf f + bitCount fs ≡ at + (widthOf f + bitCount fs) = omega arith in
-    ap (λ (b : Bool). cond b (judge (fs ++ (field ∷ after)) (at + widthOf f) (vs ++ (value ∷ later))) (Faulty (faultAt f at))) (if-allowed (ruleOf f) v (h .0))
-    ∙ first-judge fs field after (at + widthOf f) vs value later (h .1) n
-    ∙ ap (λ (k : ℕ). Faulty (faultAt field k)) e
+first-judge [] field after at [] value later why h n =
+    let e : at + 0 ≡ at = omega arith in
+    ap (λ (x : Verdict). both x (judge after (at + widthOf field) later)) (if-wrong (ruleOf field) value at why (wrong-at (ruleOf field) value why e n))
+first-judge [] field after at (v ∷ vs) value later why h n = absurd h
+first-judge (f ∷ fs) field after at [] value later why h n = absurd h
+first-judge (f ∷ fs) field after at (v ∷ vs) value later why h n =
+    let e : at + (widthOf f + bitCount fs) ≡ at + widthOf f + bitCount fs = omega arith in
+    ap (λ (x : Verdict). both x (judge (fs ++ (field ∷ after)) (at + widthOf f) (vs ++ (value ∷ later)))) (if-kept (ruleOf f) v at (h .0))
+    ∙ first-judge fs field after (at + widthOf f) vs value later why (h .1) (wrong-at (ruleOf field) value why e n)
 
 wrong-judge : (fs : List Field) (at : ℕ) (vs : List ℕ) (why : Fault) → FirstWrong fs at vs why → judge fs at vs ≡ Faulty why
 wrong-judge fs at vs why w =
     ap (λ (l : List Field). judge l at vs) (w .all-fields)
     ∙ ap (judge (w .before ++ (w .field ∷ w .after)) at) (w .all-values)
-    ∙ first-judge (w .before) (w .field) (w .after) at (w .earlier) (w .value) (w .later) (w .allowed) (w .ruled-out)
-    ∙ ap Faulty (sym (w .refused))
+    ∙ first-judge (w .before) (w .field) (w .after) at (w .earlier) (w .value) (w .later) why (w .allowed) (w .broken)
 
 -- ── the rules across fields ──
-
-if-same : (t : Bool) (a why : Fault) → refuseIf t a ≡ Faulty why → (t ≡ true) × (why ≡ a)
-if-same true a why e = (refl, sym (faulty-same a why e))
-if-same false a why e = let z : _≡_ {A = ℕ} 0 1 = cc in absurd (omega arith)
 
 disowned : (c : Ownership) (why : Fault) → ownerRules c ≡ Faulty why → Disowned c why
 disowned c why e =
@@ -174,7 +192,7 @@ disowned c why e =
     unowned o (eqb-false (c .number) 0 (not-true _ (r .0))) (r .1))
     (λ n.
     let o = eqb-false (c .owner) 0 n in
-    let r = if-same (eqb (c .flag) 0) (fault.Value Owner 5) why (sym (owned-rules c o refl) ∙ e) in
+    let r = if-same (eqb (c .flag) 0) (fault.Value CopyrightOwner 5) why (sym (owned-rules c o refl) ∙ e) in
     unflagged (eqb-true (c .flag) 0 (r .0)) o (r .1))
 
 disowned-rules : (c : Ownership) (why : Fault) → Disowned c why → ownerRules c ≡ Faulty why
@@ -210,10 +228,6 @@ broken-cross Copyright vs why h = ap ownedBy (h .1) ∙ disowned-rules (h .0) wh
 then-split : {A P : Type 0} (v : Verdict) (r : Result A) (why : Fault) → (v >> r) ≡ bad why → (v ≡ Faulty why → P) → (v ≡ Fine → r ≡ bad why → P) → P
 then-split Fine r why e f g = g refl e
 then-split {A} (Faulty a) r why e f g = f (ap Faulty (bad-same {A = A} e))
-
-both-split : {P : Type 0} (v w : Verdict) (why : Fault) → both v w ≡ Faulty why → (v ≡ Faulty why → P) → (v ≡ Fine → w ≡ Faulty why → P) → P
-both-split Fine w why e f g = g refl e
-both-split (Faulty a) w why e f g = f e
 
 pub breaks-if : (layout : Layout) (body : List ℕ) (why : Fault) → reading layout body ≡ bad why → Breaks layout body why
 unfolding judged reader.ended
@@ -256,13 +270,10 @@ if-breaks layout body why (ended vs end h a x n e) =
 
 -- ── SHORT ──
 
-rule-not-short : (r : Values) (n : Name) (at : ℕ) → fault.Short ≡ byRule r n at → ⊥
-rule-not-short rule.Any n at e = let z : _≡_ {A = ℕ} 0 1 = cc in omega arith
-rule-not-short rule.Set n at e = let z : _≡_ {A = ℕ} 0 1 = cc in omega arith
-rule-not-short (rule.Only one) n at e = let z : _≡_ {A = ℕ} 0 1 = cc in omega arith
-rule-not-short (rule.But one) n at e = let z : _≡_ {A = ℕ} 0 1 = cc in omega arith
-rule-not-short (rule.Within least greatest) n at e = let z : _≡_ {A = ℕ} 0 1 = cc in omega arith
-rule-not-short (rule.WithinBut least greatest one) n at e = let z : _≡_ {A = ℕ} 0 1 = cc in omega arith
+rule-not-short : (r : Rule) (v at : ℕ) → Wrong r v at fault.Short → ⊥
+rule-not-short rule.Any v at h = h
+rule-not-short rule.Set v at (n, e) = let z : _≡_ {A = ℕ} 0 1 = cc in omega arith
+rule-not-short (rule.Judged field values) v at (n, e) = let z : _≡_ {A = ℕ} 0 1 = cc in omega arith
 
 disowned-not-short : (c : Ownership) → Disowned c fault.Short → ⊥
 disowned-not-short c (unflagged f o e) = let z : _≡_ {A = ℕ} 0 1 = cc in omega arith
@@ -276,9 +287,8 @@ across-not-short Coloured vs h = h
 across-not-short Copyright vs h = disowned-not-short (h .0) (h .2)
 
 pub short-breaks : (layout : Layout) (body : List ℕ) → Breaks layout body fault.Short → length body < leastBytes layout
-unfolding faultAt
 short-breaks layout body (short h e) = h
-short-breaks layout body (wrong vs end h w) = absurd (rule-not-short (ruleOf (w .field)) (nameOf (w .field)) (0 + bitCount (w .before)) (w .refused))
+short-breaks layout body (wrong vs end h w) = absurd (rule-not-short (ruleOf (w .field)) (w .value) (0 + bitCount (w .before)) (w .broken))
 short-breaks layout body (across vs end h a x) = absurd (across-not-short layout vs x)
 short-breaks layout body (ended vs end h a x n e) = let z : _≡_ {A = ℕ} 0 1 = cc in absurd (omega arith)
 

@@ -6,5 +6,6 @@ pub mod OwnerLaws
 pub mod JudgeLaws
 pub mod ObeyLaws
 pub mod BreakLaws
+pub mod PlaceLaws
 pub mod TakenLaws
 pub mod Main

@@ -3,7 +3,7 @@ use Prim.Native.Nat.{ℕ, _+_, _*_, _^_, _≤_, _<_}
 use mathlib.Core.Path.{_≡_, refl, sym, ap, _∙_, subst}
 use mathlib.Core.Logic.{_↔_}
 use mathlib.Core.List.{List, [], _∷_, _++_}
-use mathlib.Core.Bool.{Bool, true, false, cond, _&&_, not}
+use mathlib.Core.Bool.{Bool, true, false, _&&_, not}
 use mathlib.Core.Option.{Option, none, some}
 use native.Mathlib.Omega.{arith}
 use borrow.Author.Tests.{eqb-true, eqb-false, eq-eqb, ne-eqb, leb-true, le-leb, ltb-false, not-true, not-false}
@@ -19,14 +19,16 @@ use Rattle.bits.proofs.ListLaws.{drop-take}
 use Rattle.bits.proofs.TestLaws.{by-test, and-true}
 use Rattle.bits.proofs.BitLaws.{length-in, length-bits}
 use Rattle.bits.proofs.Main.{read-exactly}
-use Rattle.layout.specs.Layouts.{widthOf, ruleOf, Allowed, faultAt, fields, bitCount}
+use Rattle.layout.specs.Layouts.{widthOf, ruleOf, Allowed, Keeps, fields, bitCount}
 use Rattle.layout.specs.Values.{Ownership, ownership}
 use Rattle.layout.specs.Obeys.{Fits, AllAllowed, Owned, Crossed, written, Obeys}
-use Rattle.layout.specs.Reader.{allows, Result, _>>_, refuseIf, both, readValue, short, valuesOf, judge, ownerRules, ownedBy, cross, judged, allZero, stuffing, ended, reading}
+use Rattle.layout.specs.Reader.{allows, ruled, Result, _>>_, refuseIf, both, readValue, short, valuesOf, judge, ownerRules, ownedBy, cross, judged, allZero, stuffing, ended, reading}
 use Rattle.answers.specs.Results.{good, _>>=_}
 use Rattle.layout.specs.declared.Values.{Values}
-use Rattle.layout.specs.declared.Values.the-variants as rule
-use Rattle.layout.specs.declared.Name.the-variants.{Owner}
+use Rattle.layout.specs.declared.Values.the-variants.{Only, But, Within, WithinBut}
+use Rattle.layout.specs.declared.Rule.{Rule}
+use Rattle.layout.specs.declared.Rule.the-variants as rule
+use Rattle.layout.specs.declared.JudgedField.the-variants.{CopyrightOwner}
 use Rattle.layout.specs.declared.Field.{Field}
 use Rattle.layout.specs.declared.Layout.{Layout}
 use Rattle.layout.specs.declared.Layout.the-variants.{Header, Display, Coloured, Copyright}
@@ -117,30 +119,34 @@ written-length (f ∷ fs) (v ∷ vs) h = length-append (bitsIn (widthOf f) v) (w
 
 pub allowed-if : (r : Values) (v : ℕ) → allows r v ≡ true → Allowed r v
 unfolding allows
-allowed-if rule.Any v e = tt
-allowed-if rule.Set v e = eqb-true v 1 e
-allowed-if (rule.Only one) v e = eqb-true v one e
-allowed-if (rule.But one) v e = eqb-false v one (not-true _ e)
-allowed-if (rule.Within least greatest) v e =
+allowed-if (Only one) v e = eqb-true v one e
+allowed-if (But one) v e = eqb-false v one (not-true _ e)
+allowed-if (Within least greatest) v e =
     let h = and-true (leb least v) (leb v greatest) e in
     (leb-true _ _ (h .0), leb-true _ _ (h .1))
-allowed-if (rule.WithinBut least greatest one) v e =
+allowed-if (WithinBut least greatest one) v e =
     let g = and-true (leb least v && leb v greatest) (not (eqb v one)) e in
     let h = and-true (leb least v) (leb v greatest) (g .0) in
     (leb-true _ _ (h .0), leb-true _ _ (h .1), eqb-false v one (not-true _ (g .1)))
 
 pub if-allowed : (r : Values) (v : ℕ) → Allowed r v → allows r v ≡ true
 unfolding allows
-if-allowed rule.Any v h = refl
-if-allowed rule.Set v h = eq-eqb v 1 h
-if-allowed (rule.Only one) v h = eq-eqb v one h
-if-allowed (rule.But one) v h = ap not (ne-eqb v one h)
-if-allowed (rule.Within least greatest) v h = rw (le-leb least v (h .0), le-leb v greatest (h .1))
-if-allowed (rule.WithinBut least greatest one) v h = rw (le-leb least v (h .0), le-leb v greatest (h .1), ne-eqb v one (h .2))
+if-allowed (Only one) v h = eq-eqb v one h
+if-allowed (But one) v h = ap not (ne-eqb v one h)
+if-allowed (Within least greatest) v h = rw (le-leb least v (h .0), le-leb v greatest (h .1))
+if-allowed (WithinBut least greatest one) v h = rw (le-leb least v (h .0), le-leb v greatest (h .1), ne-eqb v one (h .2))
 
-pick-fine : (t : Bool) (v : Verdict) (why : Fault) → cond t v (Faulty why) ≡ Fine → (t ≡ true) × (v ≡ Fine)
-pick-fine true v why e = (refl, e)
-pick-fine false v why e = let z : _≡_ {A = ℕ} 0 1 = cc in absurd (omega arith)
+pub kept-if : (r : Rule) (v at : ℕ) → ruled r v at ≡ Fine → Keeps r v
+unfolding ruled
+kept-if rule.Any v at e = tt
+kept-if rule.Set v at e = eqb-true v 1 (not-false _ (if-fine _ _ e))
+kept-if (rule.Judged field values) v at e = allowed-if values v (not-false _ (if-fine _ _ e))
+
+pub if-kept : (r : Rule) (v at : ℕ) → Keeps r v → ruled r v at ≡ Fine
+unfolding ruled
+if-kept rule.Any v at h = refl
+if-kept rule.Set v at h = fine-if _ _ (ap not (eq-eqb v 1 h))
+if-kept (rule.Judged field values) v at h = fine-if _ _ (ap not (if-allowed values v h))
 
 pub judge-fine : (fs : List Field) (at : ℕ) (vs : List ℕ) → Fits fs vs → judge fs at vs ≡ Fine → AllAllowed fs vs
 unfolding judge Fits AllAllowed
@@ -148,15 +154,15 @@ judge-fine [] at [] h e = tt
 judge-fine [] at (v ∷ vs) h e = absurd h
 judge-fine (f ∷ fs) at [] h e = absurd h
 judge-fine (f ∷ fs) at (v ∷ vs) h e =
-    let p = pick-fine (allows (ruleOf f) v) (judge fs (at + widthOf f) vs) (faultAt f at) e in
-    (allowed-if (ruleOf f) v (p .0), judge-fine fs (at + widthOf f) vs (h .1) (p .1))
+    let p = both-fine (ruled (ruleOf f) v at) (judge fs (at + widthOf f) vs) e in
+    (kept-if (ruleOf f) v at (p .0), judge-fine fs (at + widthOf f) vs (h .1) (p .1))
 
 pub fine-judge : (fs : List Field) (at : ℕ) (vs : List ℕ) → AllAllowed fs vs → judge fs at vs ≡ Fine
 unfolding judge AllAllowed
 fine-judge [] at [] h = refl
 fine-judge [] at (v ∷ vs) h = absurd h
 fine-judge (f ∷ fs) at [] h = absurd h
-fine-judge (f ∷ fs) at (v ∷ vs) h = rw (if-allowed (ruleOf f) v (h .0)) (fine-judge fs (at + widthOf f) vs (h .1))
+fine-judge (f ∷ fs) at (v ∷ vs) h = fine-both _ _ (if-kept (ruleOf f) v at (h .0)) (fine-judge fs (at + widthOf f) vs (h .1))
 
 -- ── the rules across fields ──
 
@@ -169,7 +175,7 @@ implies a b f = by-test (eqb a 0) (λ t. rw (t, eq-eqb b 0 (f (eqb-true a 0 t)))
 owned-if : (c : Ownership) → ownerRules c ≡ Fine → Owned c
 unfolding ownerRules
 owned-if c e =
-    let h = both-fine (refuseIf (eqb (c .flag) 0 && not (eqb (c .owner) 0)) (fault.Value Owner 5)) _ e in
+    let h = both-fine (refuseIf (eqb (c .flag) 0 && not (eqb (c .owner) 0)) (fault.Value CopyrightOwner 5)) _ e in
     record { unflagged = implied (c .flag) (c .owner) (if-fine _ _ (h .0)); unowned = implied (c .owner) (c .number) (if-fine _ _ (h .1)) }
 
 if-owned : (c : Ownership) → Owned c → ownerRules c ≡ Fine

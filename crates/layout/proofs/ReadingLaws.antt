@@ -2,7 +2,7 @@
 use Prim.Native.Nat.{ℕ, zero, suc, _+_, _*_, _<_}
 use mathlib.Core.Path.{_≡_, refl, sym, ap, _∙_, subst}
 use mathlib.Core.List.{List, [], _∷_, _++_, append-assoc, append-nil}
-use mathlib.Core.Bool.{Bool, true, false, cond, not}
+use mathlib.Core.Bool.{cond}
 use native.Mathlib.Numerals.{add-one}
 use lib.ListN.{length, take, drop, set}
 use lib.Seq.{take-suc-set}
@@ -12,10 +12,9 @@ use Rattle.bits.specs.declared.Read.{Read}
 use Rattle.bits.specs.declared.Read.the-variants as read
 use Rattle.bits.specs.declared.Read.the-variants.{Value, TooWide}
 use Rattle.bits.proofs.ListLaws.{drop-take}
-use Rattle.bits.proofs.TestLaws.{by-test}
 use Rattle.answers.proofs.ResultLaws.{not-good, good-same, bind-good}
-use Rattle.layout.specs.Layouts.{widthOf, ruleOf, faultAt}
-use Rattle.layout.specs.Reader.{allows, Result, _>>_, refuseIf, readValue, valuesOf, judge}
+use Rattle.layout.specs.Layouts.{widthOf, ruleOf}
+use Rattle.layout.specs.Reader.{Result, _>>_, both, readValue, ruled, valuesOf, judge}
 use Rattle.layout.specs.Inside.{taken, takenFrom}
 use Rattle.answers.specs.Results.{good, bad, _>>=_}
 use Rattle.layout.specs.declared.Field.{Field}
@@ -68,14 +67,14 @@ value-good read.TooWide v e = not-good e
 
 -- a field of which the value is read
 pub taken-value : (f : Field) (at v : ℕ) (bits : List ℕ) → readAt bits at (widthOf f) ≡ Value v →
-    taken f at bits ≡ (refuseIf (not (allows (ruleOf f) v)) (faultAt f at) >> good v)
+    taken f at bits ≡ (ruled (ruleOf f) v at >> good v)
 unfolding taken
-taken-value f at v bits r = ap (λ (x : Read). readValue x >>= (λ u. refuseIf (not (allows (ruleOf f) u)) (faultAt f at) >> good u)) r
+taken-value f at v bits r = ap (λ (x : Read). readValue x >>= (λ u. ruled (ruleOf f) u at >> good u)) r
 
 -- a read that failed
 pub taken-fail : (f : Field) (at : ℕ) (bits : List ℕ) (x : Read) → readAt bits at (widthOf f) ≡ x → readValue x ≡ bad Short → taken f at bits ≡ bad Short
 unfolding taken
-taken-fail f at bits x r b = ap (λ (y : Result ℕ). y >>= (λ u. refuseIf (not (allows (ruleOf f) u)) (faultAt f at) >> good u)) (ap readValue r ∙ b)
+taken-fail f at bits x r b = ap (λ (y : Result ℕ). y >>= (λ u. ruled (ruleOf f) u at >> good u)) (ap readValue r ∙ b)
 
 taken-first : (fs gs : List Field) (f : Field) (at : ℕ) (bits : List ℕ) → fs ≡ f ∷ gs →
     takenFrom fs at bits ≡ (taken f at bits >>= (λ v. takenFrom gs (at + widthOf f) bits >>= (λ vs. good (v ∷ vs))))
@@ -101,6 +100,11 @@ onto-then : (v : ℕ) (vs : List ℕ) (w : Verdict) → ((w >> good vs) >>= (λ 
 onto-then v vs Fine = refl
 onto-then v vs (Faulty why) = refl
 
+-- a field's verdict, and then those of the fields after it
+both-onto : (v : ℕ) (us : List ℕ) (w j : Verdict) → ((w >> good v) >>= (λ v. (j >> good us) >>= (λ vs. good (v ∷ vs)))) ≡ (both w j >> good (v ∷ us))
+both-onto v us Fine j = onto-then v us j
+both-onto v us (Faulty why) j = refl
+
 pub taken-judged : (fs : List Field) (at : ℕ) (bits vs : List ℕ) → valuesOf fs at bits ≡ good vs → takenFrom fs at bits ≡ (judge fs at vs >> good vs)
 unfolding valuesOf judge takenFrom
 taken-judged [] at bits vs e = ap good (good-same e)
@@ -113,5 +117,5 @@ taken-judged (f ∷ fs) at bits vs e =
     let here = taken-value f at v bits (value-good (readAt bits at (widthOf f)) v (first .1)) in
     subst (λ (l : List ℕ). takenFrom (f ∷ fs) at bits ≡ (judge (f ∷ fs) at l >> good l)) (good-same (later .2))
     (ap (λ (x : Result ℕ). x >>= (λ v. takenFrom fs (at + widthOf f) bits >>= (λ vs. good (v ∷ vs)))) here
-    ∙ ap (λ (x : Result (List ℕ)). (refuseIf (not (allows (ruleOf f) v)) (faultAt f at) >> good v) >>= (λ v. x >>= (λ vs. good (v ∷ vs)))) rest
-    ∙ by-test (allows (ruleOf f) v) (λ t. rw t (onto-then v us (judge fs (at + widthOf f) us))) (λ n. rw n))
+    ∙ ap (λ (x : Result (List ℕ)). (ruled (ruleOf f) v at >> good v) >>= (λ v. x >>= (λ vs. good (v ∷ vs)))) rest
+    ∙ both-onto v us (ruled (ruleOf f) v at) (judge fs (at + widthOf f) us))

@@ -7,10 +7,10 @@ use mathlib.Core.List.{List, [], _∷_, _++_}
 use mathlib.Core.Option.{some}
 use lib.ListN.{length, replicate}
 use Rattle.bits.specs.Bits.{bitsOf}
-use Rattle.layout.specs.Layouts.{ruleOf, Allowed, faultAt, fields, bitCount, leastBytes}
+use Rattle.layout.specs.Layouts.{ruleOf, Wrong, fields, bitCount, leastBytes}
 use Rattle.layout.specs.Values.{Ownership, ownership}
 use Rattle.layout.specs.Obeys.{Fits, AllAllowed, Crossed, written}
-use Rattle.layout.specs.declared.Name.the-variants.{Owner, CopyrightNumber}
+use Rattle.layout.specs.declared.JudgedField.the-variants.{CopyrightOwner, CopyrightNumber}
 use Rattle.layout.specs.declared.Field.{Field}
 use Rattle.layout.specs.declared.Layout.{Layout}
 use Rattle.layout.specs.declared.Layout.the-variants.{Header, Display, Coloured, Copyright}
@@ -23,7 +23,8 @@ pub record Holds (layout : Layout) (body vs end : List ℕ) : Type 0 where
   pub fits : Fits (fields layout) vs
   pub bits : bitsOf body ≡ written (fields layout) vs ++ end
 
--- the first field whose value is ruled out, and what it is refused for; the first field begins at bit `at`
+-- The first field whose rule is broken, and what it is refused for. The first field of all begins at bit `at`, so this one's first bit is
+-- that and the sum of the widths before it.
 pub record FirstWrong (fs : List Field) (at : ℕ) (vs : List ℕ) (why : Fault) : Type 0 where
   pub before : List Field
   pub field : Field
@@ -34,12 +35,12 @@ pub record FirstWrong (fs : List Field) (at : ℕ) (vs : List ℕ) (why : Fault)
   pub all-fields : fs ≡ before ++ (field ∷ after)
   pub all-values : vs ≡ earlier ++ (value ∷ later)
   pub allowed : AllAllowed before earlier
-  pub ruled-out : Allowed (ruleOf field) value → ⊥
-  pub refused : why ≡ faultAt field (at + bitCount before)
+  pub broken : Wrong (ruleOf field) value (at + bitCount before) why
 
--- After the last field of a copyright extension, VALUE if flag 0 with owner not 0, or owner 0 with number not 0.
+-- After the last field of a copyright extension, VALUE of the owner if flag 0 with owner not 0, VALUE of the copyright number if owner 0
+-- with number not 0. Owner begins at bit 5, part one at bit 22 (`value-begins`).
 pub data Disowned (c : Ownership) (why : Fault) : Type 0 where
-  unflagged : c .flag ≡ 0 → c .owner ≢ 0 → why ≡ fault.Value Owner 5 → Disowned c why
+  unflagged : c .flag ≡ 0 → c .owner ≢ 0 → why ≡ fault.Value CopyrightOwner 5 → Disowned c why
   unowned : c .owner ≡ 0 → c .number ≢ 0 → why ≡ fault.Value CopyrightNumber 22 → Disowned c why
 
 -- a rule across fields is broken

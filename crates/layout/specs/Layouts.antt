@@ -2,11 +2,15 @@
 use Prim.Native.Nat.{ℕ, _+_, _≤_}
 use mathlib.Core.Path.{_≡_}
 use mathlib.Core.Logic.{_≢_}
-use mathlib.Core.List.{List, [], _∷_}
+use mathlib.Core.List.{List, [], _∷_, _++_}
 use Rattle.layout.specs.declared.Name.{Name}
 use Rattle.layout.specs.declared.Name.the-variants.{Profile, Level, Progressive, HorizontalSize, VerticalSize, ChromaFormat, Precision, Aspect, FrameRate, BitRateLow, BitRateHigh, LowDelay, BufferSize, Reserved, Marker, Number, Format, Range, ColourGiven, Primaries, Transfer, Matrix, Width, Height, Stereo, Flag, Owner, Original, PartOne, PartTwo, PartThree}
+use Rattle.layout.specs.declared.JudgedField.{JudgedField}
+use Rattle.layout.specs.declared.JudgedField.the-variants as value
 use Rattle.layout.specs.declared.Values.{Values}
-use Rattle.layout.specs.declared.Values.the-variants.{Any, Set, Only, But, Within, WithinBut}
+use Rattle.layout.specs.declared.Values.the-variants.{Only, But, Within, WithinBut}
+use Rattle.layout.specs.declared.Rule.{Rule}
+use Rattle.layout.specs.declared.Rule.the-variants.{Any, Set, Judged}
 use Rattle.layout.specs.declared.Field.{Field}
 use Rattle.layout.specs.declared.Fault.{Fault}
 use Rattle.layout.specs.declared.Fault.the-variants as fault
@@ -15,9 +19,9 @@ use Rattle.layout.specs.declared.Layout.the-variants.{Header, Display, C
 
 -- ── fields ──
 
--- a field: its name, its width in bits, and the values that it may have
-abbrev pub field : Name → ℕ → Values → Field
-field name width values = record { 0 = name; 1 = width; 2 = values }
+-- a field: its name, its width in bits, and what is asked of it
+abbrev pub field : Name → ℕ → Rule → Field
+field name width rule = record { 0 = name; 1 = width; 2 = rule }
 
 abbrev pub nameOf : Field → Name
 nameOf f = f .0
@@ -25,30 +29,28 @@ nameOf f = f .0
 abbrev pub widthOf : Field → ℕ
 widthOf f = f .1
 
-abbrev pub ruleOf : Field → Values
+abbrev pub ruleOf : Field → Rule
 ruleOf f = f .2
 
 -- the values that are not ruled out
 abbrev pub Allowed : Values → ℕ → Type 0
-Allowed Any v = Unit {0}
-Allowed Set v = v ≡ 1
 Allowed (Only one) v = v ≡ one
 Allowed (But one) v = v ≢ one
 Allowed (Within least greatest) v = (least ≤ v) × (v ≤ greatest)
 Allowed (WithinBut least greatest one) v = (least ≤ v) × (v ≤ greatest) × (v ≢ one)
 
--- MARKER for a marker bit, VALUE for any other
-abbrev pub byRule : Values → Name → ℕ → Fault
-byRule Set name at = fault.Marker at
-byRule Any name at = fault.Value name at
-byRule (Only one) name at = fault.Value name at
-byRule (But one) name at = fault.Value name at
-byRule (Within least greatest) name at = fault.Value name at
-byRule (WithinBut least greatest one) name at = fault.Value name at
+-- a value with which a rule is kept
+abbrev pub Keeps : Rule → ℕ → Type 0
+Keeps Any v = Unit {0}
+Keeps Set v = v ≡ 1
+Keeps (Judged field values) v = Allowed values v
 
--- what a field that begins at bit `at` is refused for
-unfoldable pub faultAt : Field → ℕ → Fault
-faultAt f at = byRule (ruleOf f) (nameOf f) at
+-- A rule that is broken, by a field that begins at bit `at`: MARKER of a marker, VALUE of any other, each with that bit. A field of which
+-- nothing is asked is never refused.
+abbrev pub Wrong : Rule → ℕ → ℕ → Fault → Type 0
+Wrong Any v at why = ⊥
+Wrong Set v at why = (v ≢ 1) × (why ≡ fault.Marker at)
+Wrong (Judged field values) v at why = (¬ Allowed values v) × (why ≡ fault.Value field at)
 
 -- ── layouts ──
 
@@ -62,12 +64,12 @@ headerFields =
     field Profile 8 Any
     ∷ field Level 8 Any
     ∷ field Progressive 1 Any
-    ∷ field HorizontalSize 14 (But 0)
-    ∷ field VerticalSize 14 (But 0)
-    ∷ field ChromaFormat 2 (Within 1 2)
-    ∷ field Precision 3 (Only 1)
-    ∷ field Aspect 4 (Within 1 4)
-    ∷ field FrameRate 4 (Within 1 8)
+    ∷ field HorizontalSize 14 (Judged value.Width (But 0))
+    ∷ field VerticalSize 14 (Judged value.Height (But 0))
+    ∷ field ChromaFormat 2 (Judged value.Chroma (Within 1 2))
+    ∷ field Precision 3 (Judged value.Precision (Only 1))
+    ∷ field Aspect 4 (Judged value.Aspect (Within 1 4))
+    ∷ field FrameRate 4 (Judged value.Rate (Within 1 8))
     ∷ field BitRateLow 18 Any
     ∷ marker
     ∷ field BitRateHigh 12 Any
@@ -77,39 +79,39 @@ headerFields =
     ∷ field Reserved 3 Any
     ∷ []
 
--- Display extension, where colour is not given. VALUE: stereo 3. A body is read by this layout only where its number is 2 and colour given is 0.
+-- Display extension, where colour is not given. VALUE: stereo 3. Number 2 and colour given 0 choose this layout, and are not judged in it.
 abbrev pub displayFields : List Field
 displayFields =
-    field Number 4 (Only 2)
+    field Number 4 Any
     ∷ field Format 3 Any
     ∷ field Range 1 Any
-    ∷ field ColourGiven 1 (Only 0)
+    ∷ field ColourGiven 1 Any
     ∷ field Width 14 Any
     ∷ marker
     ∷ field Height 14 Any
-    ∷ field Stereo 2 (But 3)
+    ∷ field Stereo 2 (Judged value.Stereo (But 3))
     ∷ []
 
--- Display extension, where colour is given. VALUE: transfer 0, 3 or above 10; matrix 0, 3 or above 7; stereo 3.
+-- Display extension, where colour is given, which chooses this layout. VALUE: transfer 0, 3 or above 10; matrix 0, 3 or above 7; stereo 3.
 abbrev pub colouredFields : List Field
 colouredFields =
-    field Number 4 (Only 2)
+    field Number 4 Any
     ∷ field Format 3 Any
     ∷ field Range 1 Any
-    ∷ field ColourGiven 1 (Only 1)
+    ∷ field ColourGiven 1 Any
     ∷ field Primaries 8 Any
-    ∷ field Transfer 8 (WithinBut 1 10 3)
-    ∷ field Matrix 8 (WithinBut 1 7 3)
+    ∷ field Transfer 8 (Judged value.Transfer (WithinBut 1 10 3))
+    ∷ field Matrix 8 (Judged value.Matrix (WithinBut 1 7 3))
     ∷ field Width 14 Any
     ∷ marker
     ∷ field Height 14 Any
-    ∷ field Stereo 2 (But 3)
+    ∷ field Stereo 2 (Judged value.Stereo (But 3))
     ∷ []
 
--- Copyright extension. A body is read by this layout only where its number is 4.
+-- Copyright extension. Number 4 chooses this layout.
 abbrev pub copyrightFields : List Field
 copyrightFields =
-    field Number 4 (Only 4)
+    field Number 4 Any
     ∷ field Flag 1 Any
     ∷ field Owner 8 Any
     ∷ field Original 1 Any
@@ -132,6 +134,29 @@ fields Copyright = copyrightFields
 abbrev pub bitCount : List Field → ℕ
 bitCount [] = 0
 bitCount (f ∷ fs) = widthOf f + bitCount fs
+
+-- the field with this name begins at this bit: the sum of the widths before it
+pub record Begins (layout : Layout) (name : Name) (at : ℕ) : Type 0 where
+  pub before : List Field
+  pub it : Field
+  pub after : List Field
+  pub all : fields layout ≡ before ++ (it ∷ after)
+  pub named : nameOf it ≡ name
+  pub sum : at ≡ bitCount before
+
+-- the field whose first bit is the place of a value that is refused: "part one for the copyright number"
+unfoldable pub placedAt : JudgedField → Name
+placedAt value.Width = HorizontalSize
+placedAt value.Height = VerticalSize
+placedAt value.Chroma = ChromaFormat
+placedAt value.Precision = Precision
+placedAt value.Aspect = Aspect
+placedAt value.Rate = FrameRate
+placedAt value.Transfer = Transfer
+placedAt value.Matrix = Matrix
+placedAt value.Stereo = Stereo
+placedAt value.CopyrightOwner = Owner
+placedAt value.CopyrightNumber = PartOne
 
 -- the bytes asked for: the fields and the stuffing bit
 unfoldable pub leastBytes : Layout → ℕ

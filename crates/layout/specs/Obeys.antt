@@ -6,7 +6,7 @@ use mathlib.Core.List.{List, [], _∷_, _++_}
 use mathlib.Core.Option.{some}
 use lib.ListN.{length, replicate}
 use Rattle.bits.specs.Bits.{bitsIn, bitsOf}
-use Rattle.layout.specs.Layouts.{widthOf, ruleOf, Allowed, fields, leastBytes}
+use Rattle.layout.specs.Layouts.{widthOf, ruleOf, Keeps, fields, leastBytes}
 use Rattle.layout.specs.Values.{Ownership, ownership}
 use Rattle.layout.specs.declared.Field.{Field}
 use Rattle.layout.specs.declared.Layout.{Layout}
@@ -25,7 +25,7 @@ Fits = Each (λ f v. v < 2 ^ widthOf f)
 
 -- each value is one that its field may have; of a marker that is 1 alone
 unfoldable pub AllAllowed : List Field → List ℕ → Type 0
-AllAllowed = Each (λ f v. Allowed (ruleOf f) v)
+AllAllowed = Each (λ f v. Keeps (ruleOf f) v)
 
 -- copyright: flag 0 has owner 0, and owner 0 has number 0
 pub record Owned (c : Ownership) : Type 0 where

@@ -1,7 +1,7 @@
 -- Reading a body by its layout, as a computation: SHORT, then the fields in bit order, then the rules across fields, then STUFFING.
 use Prim.Native.Nat.{ℕ, _+_}
 use mathlib.Core.List.{List, [], _∷_}
-use mathlib.Core.Bool.{Bool, true, false, cond, _&&_, not}
+use mathlib.Core.Bool.{Bool, true, false, _&&_, not}
 use mathlib.Core.Option.{Option, none, some}
 use lib.ListN.{length, drop}
 use lib.Dec.{eqb, leb, ltb}
@@ -9,16 +9,18 @@ use Rattle.answers.specs.Results as results
 use Rattle.answers.specs.Results.{good, bad, _>>=_}
 use Rattle.bits.specs.Bits.{bitsOf, readAt, readOr}
 use Rattle.bits.specs.declared.Read.{Read}
-use Rattle.layout.specs.Layouts.{widthOf, ruleOf, faultAt, fields, bitCount, leastBytes}
+use Rattle.layout.specs.Layouts.{widthOf, ruleOf, fields, bitCount, leastBytes}
 use Rattle.layout.specs.Values.{Ownership, ownership}
-use Rattle.layout.specs.declared.Name.the-variants.{Owner, CopyrightNumber}
+use Rattle.layout.specs.declared.JudgedField.the-variants.{CopyrightOwner, CopyrightNumber}
 use Rattle.layout.specs.declared.Values.{Values}
-use Rattle.layout.specs.declared.Values.the-variants as rule
+use Rattle.layout.specs.declared.Values.the-variants.{Only, But, Within, WithinBut}
+use Rattle.layout.specs.declared.Rule.{Rule}
+use Rattle.layout.specs.declared.Rule.the-variants as rule
 use Rattle.layout.specs.declared.Field.{Field}
 use Rattle.layout.specs.declared.Layout.{Layout}
 use Rattle.layout.specs.declared.Layout.the-variants.{Header, Display, Coloured, Copyright}
 use Rattle.layout.specs.declared.Fault.{Fault}
-use Rattle.layout.specs.declared.Fault.the-variants.{Short, Value, Stuffing}
+use Rattle.layout.specs.declared.Fault.the-variants.{Short, Marker, Value, Stuffing}
 use Rattle.layout.specs.declared.Verdict.{Verdict}
 use Rattle.layout.specs.declared.Verdict.the-variants.{Fine, Faulty}
 
@@ -55,12 +57,16 @@ short layout body = ltb (length body) (leastBytes layout)
 
 -- whether a value is allowed
 unfoldable pub allows : Values → ℕ → Bool
-allows rule.Any v = true
-allows rule.Set v = eqb v 1
-allows (rule.Only one) v = eqb v one
-allows (rule.But one) v = not (eqb v one)
-allows (rule.Within least greatest) v = leb least v && leb v greatest
-allows (rule.WithinBut least greatest one) v = leb least v && leb v greatest && not (eqb v one)
+allows (Only one) v = eqb v one
+allows (But one) v = not (eqb v one)
+allows (Within least greatest) v = leb least v && leb v greatest
+allows (WithinBut least greatest one) v = leb least v && leb v greatest && not (eqb v one)
+
+-- what is found of a field by its rule, from its value and its first bit
+unfoldable pub ruled : Rule → ℕ → ℕ → Verdict
+ruled rule.Any v at = Fine
+ruled rule.Set v at = refuseIf (not (eqb v 1)) (Marker at)
+ruled (rule.Judged field values) v at = refuseIf (not (allows values v)) (Value field at)
 
 -- the values of fields, of which the first begins at bit `at`
 unfoldable pub valuesOf : List Field → ℕ → List ℕ → Result (List ℕ)
@@ -70,17 +76,17 @@ valuesOf (f ∷ fs) at bits = do
   vs ← valuesOf fs (at + widthOf f) bits
   good (v ∷ vs)
 
--- the first field whose value is ruled out, with its first bit; the first field begins at bit `at`
+-- the first field whose rule is broken; the first field of all begins at bit `at`
 unfoldable pub judge : List Field → ℕ → List ℕ → Verdict
 judge [] at vs = Fine
 judge (f ∷ fs) at [] = Faulty Short
-judge (f ∷ fs) at (v ∷ vs) = cond (allows (ruleOf f) v) (judge fs (at + widthOf f) vs) (Faulty (faultAt f at))
+judge (f ∷ fs) at (v ∷ vs) = both (ruled (ruleOf f) v at) (judge fs (at + widthOf f) vs)
 
 -- After the last field of a copyright extension, VALUE if flag 0 with owner not 0, or owner 0 with number not 0.
 -- Owner begins at bit 5, part one at bit 22.
 unfoldable pub ownerRules : Ownership → Verdict
 ownerRules c =
-    both (refuseIf (eqb (c .flag) 0 && not (eqb (c .owner) 0)) (Value Owner 5))
+    both (refuseIf (eqb (c .flag) 0 && not (eqb (c .owner) 0)) (Value CopyrightOwner 5))
     (refuseIf (eqb (c .owner) 0 && not (eqb (c .number) 0)) (Value CopyrightNumber 22))
 
 -- values that are not there are SHORT

@@ -7,13 +7,13 @@ ghost use Prim.Native.Nat.{_+_, _*_, _<_, _≤_};
 ghost use lib.ListN.{length, drop};
 ghost use lib.Dec.{eqb, leb};
 ghost use Rattle.bits.specs.Bits.{bitsOf};
-ghost use Rattle.layout.specs.Layouts.{widthOf, headerFields, displayFields, colouredFields, copyrightFields, fields, leastBytes, faultAt};
+ghost use Rattle.layout.specs.Layouts.{widthOf, headerFields, displayFields, colouredFields, copyrightFields, fields, leastBytes};
 ghost use Rattle.layout.specs.Values.{copyrightNumber, ownership};
 ghost use Rattle.layout.specs.Answers.{bodySays};
-ghost use Rattle.layout.specs.Reader.{allows, stuffing, ownedBy, cross, both, ended, reading};
+ghost use Rattle.layout.specs.Reader.{allows, ruled, stuffing, ownedBy, cross, both, ended, reading};
 ghost use Rattle.layout.specs.Inside.{fieldSays, taken, takenFrom};
 
-// The fields of the layouts. CopyrightNumber is the three parts together.
+// The fields of the layouts.
 pub enum Name {
     Profile,
     Level,
@@ -46,21 +46,41 @@ pub enum Name {
     PartOne,
     PartTwo,
     PartThree,
+}
+
+// The fields that are refused for their value, by document 02's names: width and height are the sizes of a sequence header. The
+// copyright number is its three parts together.
+pub enum JudgedField {
+    Width,
+    Height,
+    Chroma,
+    Precision,
+    Aspect,
+    Rate,
+    Transfer,
+    Matrix,
+    Stereo,
+    CopyrightOwner,
     CopyrightNumber,
 }
 
-// The values that a field may have. Set is a marker's: the bit is 1.
+// The values that a field may have.
 pub enum Values {
-    Any,
-    Set,
     Only(u32),
     But(u32),
     Within(u32, u32),
     WithinBut(u32, u32, u32),
 }
 
-// A field: its name, its width in bits, and the values that it may have.
-pub struct Field(pub Name, pub u32, pub Values);
+// What is asked of a field: nothing; that it is 1, of a marker; or one of some values, otherwise it is refused as this field.
+pub enum Rule {
+    Any,
+    Set,
+    Judged(JudgedField, Values),
+}
+
+// A field: its name, its width in bits, and what is asked of it.
+pub struct Field(pub Name, pub u32, pub Rule);
 
 // The layouts: a display extension has two, without colour and with it.
 pub enum Layout {
@@ -70,11 +90,11 @@ pub enum Layout {
     Copyright,
 }
 
-// What is wrong with a body: it is too short; a marker, by its bit; a value, by its field's name and first bit; its end.
+// What is wrong with a body: it is too short; a marker, by its bit; a value, by its field and that one's first bit; its end.
 pub enum Fault {
     Short,
     Marker(usize),
-    Value(Name, usize),
+    Value(JudgedField, usize),
     Stuffing,
 }
 
@@ -118,22 +138,46 @@ fn header_field(i: usize) -> Field
     ensures { λ r. ⌜ drop i headerFields ≡ r ∷ drop (i + 1) headerFields ⌝ }
 {
     match i {
-        0 => Field(Name::Profile, 8, Values::Any),
-        1 => Field(Name::Level, 8, Values::Any),
-        2 => Field(Name::Progressive, 1, Values::Any),
-        3 => Field(Name::HorizontalSize, 14, Values::But(0)),
-        4 => Field(Name::VerticalSize, 14, Values::But(0)),
-        5 => Field(Name::ChromaFormat, 2, Values::Within(1, 2)),
-        6 => Field(Name::Precision, 3, Values::Only(1)),
-        7 => Field(Name::Aspect, 4, Values::Within(1, 4)),
-        8 => Field(Name::FrameRate, 4, Values::Within(1, 8)),
-        9 => Field(Name::BitRateLow, 18, Values::Any),
-        10 => Field(Name::Marker, 1, Values::Set),
-        11 => Field(Name::BitRateHigh, 12, Values::Any),
-        12 => Field(Name::LowDelay, 1, Values::Any),
-        13 => Field(Name::Marker, 1, Values::Set),
-        14 => Field(Name::BufferSize, 18, Values::Any),
-        _ => Field(Name::Reserved, 3, Values::Any),
+        0 => Field(Name::Profile, 8, Rule::Any),
+        1 => Field(Name::Level, 8, Rule::Any),
+        2 => Field(Name::Progressive, 1, Rule::Any),
+        3 => Field(
+            Name::HorizontalSize,
+            14,
+            Rule::Judged(JudgedField::Width, Values::But(0)),
+        ),
+        4 => Field(
+            Name::VerticalSize,
+            14,
+            Rule::Judged(JudgedField::Height, Values::But(0)),
+        ),
+        5 => Field(
+            Name::ChromaFormat,
+            2,
+            Rule::Judged(JudgedField::Chroma, Values::Within(1, 2)),
+        ),
+        6 => Field(
+            Name::Precision,
+            3,
+            Rule::Judged(JudgedField::Precision, Values::Only(1)),
+        ),
+        7 => Field(
+            Name::Aspect,
+            4,
+            Rule::Judged(JudgedField::Aspect, Values::Within(1, 4)),
+        ),
+        8 => Field(
+            Name::FrameRate,
+            4,
+            Rule::Judged(JudgedField::Rate, Values::Within(1, 8)),
+        ),
+        9 => Field(Name::BitRateLow, 18, Rule::Any),
+        10 => Field(Name::Marker, 1, Rule::Set),
+        11 => Field(Name::BitRateHigh, 12, Rule::Any),
+        12 => Field(Name::LowDelay, 1, Rule::Any),
+        13 => Field(Name::Marker, 1, Rule::Set),
+        14 => Field(Name::BufferSize, 18, Rule::Any),
+        _ => Field(Name::Reserved, 3, Rule::Any),
     }
 }
 
@@ -142,14 +186,18 @@ fn display_field(i: usize) -> Field
     ensures { λ r. ⌜ drop i displayFields ≡ r ∷ drop (i + 1) displayFields ⌝ }
 {
     match i {
-        0 => Field(Name::Number, 4, Values::Only(2)),
-        1 => Field(Name::Format, 3, Values::Any),
-        2 => Field(Name::Range, 1, Values::Any),
-        3 => Field(Name::ColourGiven, 1, Values::Only(0)),
-        4 => Field(Name::Width, 14, Values::Any),
-        5 => Field(Name::Marker, 1, Values::Set),
-        6 => Field(Name::Height, 14, Values::Any),
-        _ => Field(Name::Stereo, 2, Values::But(3)),
+        0 => Field(Name::Number, 4, Rule::Any),
+        1 => Field(Name::Format, 3, Rule::Any),
+        2 => Field(Name::Range, 1, Rule::Any),
+        3 => Field(Name::ColourGiven, 1, Rule::Any),
+        4 => Field(Name::Width, 14, Rule::Any),
+        5 => Field(Name::Marker, 1, Rule::Set),
+        6 => Field(Name::Height, 14, Rule::Any),
+        _ => Field(
+            Name::Stereo,
+            2,
+            Rule::Judged(JudgedField::Stereo, Values::But(3)),
+        ),
     }
 }
 
@@ -158,17 +206,29 @@ fn coloured_field(i: usize) -> Field
     ensures { λ r. ⌜ drop i colouredFields ≡ r ∷ drop (i + 1) colouredFields ⌝ }
 {
     match i {
-        0 => Field(Name::Number, 4, Values::Only(2)),
-        1 => Field(Name::Format, 3, Values::Any),
-        2 => Field(Name::Range, 1, Values::Any),
-        3 => Field(Name::ColourGiven, 1, Values::Only(1)),
-        4 => Field(Name::Primaries, 8, Values::Any),
-        5 => Field(Name::Transfer, 8, Values::WithinBut(1, 10, 3)),
-        6 => Field(Name::Matrix, 8, Values::WithinBut(1, 7, 3)),
-        7 => Field(Name::Width, 14, Values::Any),
-        8 => Field(Name::Marker, 1, Values::Set),
-        9 => Field(Name::Height, 14, Values::Any),
-        _ => Field(Name::Stereo, 2, Values::But(3)),
+        0 => Field(Name::Number, 4, Rule::Any),
+        1 => Field(Name::Format, 3, Rule::Any),
+        2 => Field(Name::Range, 1, Rule::Any),
+        3 => Field(Name::ColourGiven, 1, Rule::Any),
+        4 => Field(Name::Primaries, 8, Rule::Any),
+        5 => Field(
+            Name::Transfer,
+            8,
+            Rule::Judged(JudgedField::Transfer, Values::WithinBut(1, 10, 3)),
+        ),
+        6 => Field(
+            Name::Matrix,
+            8,
+            Rule::Judged(JudgedField::Matrix, Values::WithinBut(1, 7, 3)),
+        ),
+        7 => Field(Name::Width, 14, Rule::Any),
+        8 => Field(Name::Marker, 1, Rule::Set),
+        9 => Field(Name::Height, 14, Rule::Any),
+        _ => Field(
+            Name::Stereo,
+            2,
+            Rule::Judged(JudgedField::Stereo, Values::But(3)),
+        ),
     }
 }
 
@@ -177,17 +237,17 @@ fn copyright_field(i: usize) -> Field
     ensures { λ r. ⌜ drop i copyrightFields ≡ r ∷ drop (i + 1) copyrightFields ⌝ }
 {
     match i {
-        0 => Field(Name::Number, 4, Values::Only(4)),
-        1 => Field(Name::Flag, 1, Values::Any),
-        2 => Field(Name::Owner, 8, Values::Any),
-        3 => Field(Name::Original, 1, Values::Any),
-        4 => Field(Name::Reserved, 7, Values::Any),
-        5 => Field(Name::Marker, 1, Values::Set),
-        6 => Field(Name::PartOne, 20, Values::Any),
-        7 => Field(Name::Marker, 1, Values::Set),
-        8 => Field(Name::PartTwo, 22, Values::Any),
-        9 => Field(Name::Marker, 1, Values::Set),
-        _ => Field(Name::PartThree, 22, Values::Any),
+        0 => Field(Name::Number, 4, Rule::Any),
+        1 => Field(Name::Flag, 1, Rule::Any),
+        2 => Field(Name::Owner, 8, Rule::Any),
+        3 => Field(Name::Original, 1, Rule::Any),
+        4 => Field(Name::Reserved, 7, Rule::Any),
+        5 => Field(Name::Marker, 1, Rule::Set),
+        6 => Field(Name::PartOne, 20, Rule::Any),
+        7 => Field(Name::Marker, 1, Rule::Set),
+        8 => Field(Name::PartTwo, 22, Rule::Any),
+        9 => Field(Name::Marker, 1, Rule::Set),
+        _ => Field(Name::PartThree, 22, Rule::Any),
     }
 }
 
@@ -216,8 +276,6 @@ fn allowed(values: Values, v: u32) -> bool
     ensures { λ r. ⌜ r ≡ allows values v ⌝ }
 {
     match values {
-        Values::Any => true,
-        Values::Set => v == 1,
         Values::Only(one) => v == one,
         Values::But(one) => v != one,
         Values::Within(least, greatest) => within(least, greatest, v),
@@ -225,19 +283,26 @@ fn allowed(values: Values, v: u32) -> bool
     }
 }
 
-// What a field that begins at bit `at` is refused for.
-fn fault_at(field: Field, at: usize) -> Fault
-    ensures { λ r. ⌜ r ≡ faultAt field at ⌝ }
+// What is found of a field by its rule, from its value and its first bit.
+fn ruled_on(rule: Rule, value: u32, at: usize) -> Verdict
+    ensures { λ r. ⌜ r ≡ ruled rule value at ⌝ }
 {
-    let name = field.0;
-    let rule = field.2;
     match rule {
-        Values::Set => Fault::Marker(at),
-        Values::Any => Fault::Value(name, at),
-        Values::Only(_) => Fault::Value(name, at),
-        Values::But(_) => Fault::Value(name, at),
-        Values::Within(_, _) => Fault::Value(name, at),
-        Values::WithinBut(_, _, _) => Fault::Value(name, at),
+        Rule::Any => Verdict::Fine,
+        Rule::Set => {
+            if value == 1 {
+                Verdict::Fine
+            } else {
+                Verdict::Faulty(Fault::Marker(at))
+            }
+        }
+        Rule::Judged(field, values) => {
+            if allowed(values, value) {
+                Verdict::Fine
+            } else {
+                Verdict::Faulty(Fault::Value(field, at))
+            }
+        }
     }
 }
 
@@ -261,13 +326,10 @@ fn read_field(field: Field, body: &[u8], at: usize) -> FieldReading
     let width = field.1;
     let rule = field.2;
     match bits::read_bits(body, at + wide(width), at, width) {
-        Read::Value(value) => {
-            if allowed(rule, value) {
-                FieldReading::Value(value)
-            } else {
-                FieldReading::Faulty(fault_at(field, at))
-            }
-        }
+        Read::Value(value) => match ruled_on(rule, value, at) {
+            Verdict::Fine => FieldReading::Value(value),
+            Verdict::Faulty(fault) => FieldReading::Faulty(fault),
+        },
         Read::Missing => FieldReading::Faulty(Fault::Short),
         Read::TooWide => FieldReading::Faulty(Fault::Short),
     }
@@ -328,10 +390,10 @@ fn owner_rules(values: &[u32]) -> Verdict
         if unnumbered {
             return Verdict::Fine;
         }
-        return Verdict::Faulty(Fault::Value(Name::CopyrightNumber, 22));
+        return Verdict::Faulty(Fault::Value(JudgedField::CopyrightNumber, 22));
     }
     if values[1] == 0 {
-        return Verdict::Faulty(Fault::Value(Name::Owner, 5));
+        return Verdict::Faulty(Fault::Value(JudgedField::CopyrightOwner, 5));
     }
     Verdict::Fine
 }

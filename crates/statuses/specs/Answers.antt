@@ -1,11 +1,14 @@
--- An answer of document 01 by value: a status, an offset and a count; a part of a stream; the number of a kind.
-use Prim.Native.Nat.{ℕ, _+_}
+-- An answer of the papers by value: a status, an offset, a count and a bit; a part of a stream; the number of a kind.
+use Prim.Native.Nat.{ℕ, _+_, _<_}
+use mathlib.Core.Path.{_≡_}
+use mathlib.Core.Logic.{_≢_}
 use mathlib.Core.List.{List, [], _∷_}
 use mathlib.Core.Option.{Option, none, some}
-use Rattle.answers.specs.Answers.{Outcome, done, refused, mapDone}
+use Rattle.answers.specs.Answers.{Carried, at-offset, at-bit, Outcome, done, refused, mapDone}
 use Rattle.startcode.specs.declared.Kind.{Kind}
 use Rattle.startcode.specs.declared.Kind.the-variants.{Slice, SequenceHeader, SequenceEnd, UserData, IPicture, Extension, PBPicture, EditCode}
 use Rattle.grammar.specs.Rows.{Row}
+use Rattle.grammar.specs.Reasons.{BitNumber}
 use Rattle.filing.specs.declared.Totals.{Totals}
 use Rattle.statuses.specs.declared.Answer.{Answer}
 use Rattle.statuses.specs.declared.Part.{Part}
@@ -13,14 +16,31 @@ use Rattle.statuses.specs.declared.Part.{Part}
 -- ── statuses ──
 
 -- the offset that a refused stream carries; 0 where there is none, as document 01 has it for NO CODE, FULL and TOO LONG
-abbrev pub offsetOf : List ℕ → ℕ
-offsetOf [] = 0
-offsetOf (offset ∷ more) = offset
+abbrev pub offsetIn : List Carried → ℕ
+offsetIn [] = 0
+offsetIn (at-offset n ∷ more) = n
+offsetIn (at-bit n ∷ more) = offsetIn more
 
--- A status is document 01's number; a refusal hands nothing over.
+-- in place of a bit, where there is none: no bit of a body is so great (BitMarked)
+abbrev pub noBit : ℕ
+noBit = 18446744073709551615
+
+-- the bit that a refusal carries
+abbrev pub bitIn : List Carried → ℕ
+bitIn [] = noBit
+bitIn (at-offset n ∷ more) = bitIn more
+bitIn (at-bit n ∷ more) = n
+
+-- A status is the papers' number; a refusal hands nothing over.
 abbrev pub counted : Outcome ℕ → Answer
-counted (done n) = record { status = 0; offset = 0; count = n }
-counted (refused number carried) = record { status = number; offset = offsetOf carried; count = 0 }
+counted (done n) = record { status = 0; offset = 0; count = n; bit = noBit }
+counted (refused number carried) = record { status = number; offset = offsetIn carried; count = 0; bit = bitIn carried }
+
+-- An answer whose bit is one of the fields' bits, of which no layout has more than 112, exactly for MARKER and VALUE; in every other the
+-- mark stands for it, which is no such bit.
+pub record BitMarked (a : Answer) : Type 0 where
+  pub given : BitNumber (a .status) → (a .bit < 112) × (a .bit ≢ noBit)
+  pub none : ¬ BitNumber (a .status) → a .bit ≡ noBit
 
 -- ── recordings ──
 

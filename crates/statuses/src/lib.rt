@@ -1,32 +1,39 @@
-// What C and Rust are answered by value: a status, which is document 01's number, with a count and the offset of a refused stream; where a
-// row's body lies; the number of a kind of unit.
+// What C and Rust are answered by value: a status, which is the papers' number, with a count, the offset of a refused stream and the bit of
+// a refused field; where a row's body lies; the number of a kind of unit.
 use filing::Checked;
 use filing::FilingAnswer;
+use grammar::Reason;
+use layout::Fault;
 use payload::Removed;
 use startcode::Kind;
 use startcode::UnitKind;
 ghost use mathlib.Core.Path.{_≡_};
-ghost use mathlib.Core.List.{[], _∷_};
+ghost use mathlib.Core.List.{[]};
 ghost use Prim.Native.Nat.{_+_, _<_, _≤_};
 ghost use lib.ListN.{length, getD};
 ghost use Rattle.answers.specs.Answers.{done, refused, mapDone};
 ghost use Rattle.startcode.specs.Kinds.{kindOf};
-ghost use Rattle.bodies.specs.Answers as bodies;
+ghost use Rattle.bodies.specs.Answers.{faultNumber, faultBit};
+ghost use Rattle.grammar.specs.Reasons.{reasonNumber, reasonBit, carries};
 ghost use Rattle.grammar.specs.Reader.{said, walk, filingInto};
-ghost use Rattle.filing.specs.Filing as filing;
 ghost use Rattle.filing.specs.Filing.{wordsAfter};
 ghost use Rattle.filing.specs.Reader.{filed};
 ghost use Rattle.rows.specs.Rows.{existing};
 ghost use Rattle.payload.specs.Escape.{removal, outputAfter};
-ghost use Rattle.statuses.specs.Answers.{counted, filedAnswer, partAt, kindNumber, kindAnswer};
+ghost use Rattle.statuses.specs.Answers.{bitIn, counted, filedAnswer, partAt, kindNumber, kindAnswer};
 
-// What a call answers: a status, the offset of a stream's refusal, and how many units, numbers or bits were handed over.
+// What a call answers: a status, the offset of a stream's refusal, how many units, numbers or bits were handed over, and the bit place
+// inside the body that a refusal carries.
 #[repr(C)]
 pub struct Answer {
     pub status: u32,
     pub offset: usize,
     pub count: usize,
+    pub bit: usize,
 }
+
+// In place of a bit that is not there.
+const NO_BIT: usize = 0xFFFFFFFFFFFFFFFF;
 
 // A part of a stream.
 #[repr(C)]
@@ -43,65 +50,84 @@ pub fn handed(count: usize) -> Answer
         status: 0,
         offset: 0,
         count: count,
+        bit: NO_BIT,
     }
 }
 
-// A refusal with its offset; one that carries none has 0.
-pub fn refusal(status: u32, offset: usize) -> Answer
-    ensures { λ r. ⌜ r ≡ counted (refused status (offset ∷ [])) ⌝ }
+// A refusal that carries nothing.
+pub fn refusal(status: u32) -> Answer
+    ensures { λ r. ⌜ r ≡ counted (refused status []) ⌝ }
 {
     Answer {
         status: status,
-        offset: offset,
+        offset: 0,
         count: 0,
+        bit: NO_BIT,
     }
 }
 
-fn layout_number(why: bodies::Reason) -> u32
-    ensures { λ r. ⌜ r ≡ bodies.reasonNumber why ⌝ }
-{
-    match why {
-        bodies::Reason::Short => 6,
-        bodies::Reason::Marker => 7,
-        bodies::Reason::Value => 8,
-        bodies::Reason::Stuffing => 9,
-    }
-}
+// ── what is wrong with a body ──
 
-fn filing_number(why: filing::Reason) -> u32
-    ensures { λ r. ⌜ r ≡ filing.reasonNumber why ⌝ }
+// The bit that it carries.
+fn fault_bit(why: Fault) -> usize
+    ensures { λ r. ⌜ r ≡ bitIn (faultBit why) ⌝ }
 {
     match why {
-        filing::Reason::NoCode => 1,
-        filing::Reason::Cut => 2,
-        filing::Reason::Overlap => 3,
-        filing::Reason::Unknown => 4,
-        filing::Reason::OutOfPlace => 5,
-        filing::Reason::Short => 6,
-        filing::Reason::Marker => 7,
-        filing::Reason::Value => 8,
-        filing::Reason::Stuffing => 9,
-        filing::Reason::Twice => 10,
-        filing::Reason::Unended => 11,
-        filing::Reason::Full => 12,
-        filing::Reason::TooLong => 13,
+        Fault::Short => NO_BIT,
+        Fault::Marker(at) => at,
+        Fault::Value(_, at) => at,
+        Fault::Stuffing => NO_BIT,
     }
 }
 
 // A body's refusal has no offset.
-pub fn refused_body(why: bodies::Reason) -> Answer
-    ensures { λ r. ⌜ r ≡ counted (refused (bodies.reasonNumber why) []) ⌝ }
+pub fn refused_body(why: Fault) -> Answer
+    ensures { λ r. ⌜ r ≡ counted (refused (faultNumber why) (faultBit why)) ⌝ }
 {
-    refusal(layout_number(why), 0)
+    Answer {
+        status: bodies::fault_number(why),
+        offset: 0,
+        count: 0,
+        bit: fault_bit(why),
+    }
+}
+
+// ── why a stream is refused ──
+
+// The bit that it carries.
+fn reason_bit(why: Reason) -> usize
+    ensures { λ r. ⌜ r ≡ bitIn (reasonBit why) ⌝ }
+{
+    match why {
+        Reason::NoCode => NO_BIT,
+        Reason::Cut => NO_BIT,
+        Reason::Overlap => NO_BIT,
+        Reason::Unknown => NO_BIT,
+        Reason::OutOfPlace => NO_BIT,
+        Reason::Body(fault) => fault_bit(fault),
+        Reason::SliceOrder => 0,
+        Reason::SliceRow => 0,
+        Reason::Twice => NO_BIT,
+        Reason::Unended => NO_BIT,
+        Reason::Full => NO_BIT,
+        Reason::TooLong => NO_BIT,
+    }
 }
 
 // A stream's refusal has its offset.
 pub fn refused_stream(why: filing::Refusal) -> Answer
-    ensures { λ r. ⌜ r ≡ counted (refused (filing.reasonNumber (why .reason)) (why .offset ∷ [])) ⌝ }
+    ensures { λ r. ⌜ r ≡ counted (refused (reasonNumber (why .reason)) (carries (why .reason) (why .offset))) ⌝ }
 {
     let reason = why.reason;
-    refusal(filing_number(reason), why.offset)
+    Answer {
+        status: grammar::reason_number(reason),
+        offset: why.offset,
+        count: 0,
+        bit: reason_bit(reason),
+    }
 }
+
+// ── recordings ──
 
 // A stream is filed: its rows are written to the lent words, or it is refused and the words stay.
 pub fn file(stream: &[u8], rows: &mut [u32]) -> Answer
@@ -161,8 +187,8 @@ pub fn remove_escapes(raw: &[u8], output: &mut [u8]) -> Answer
 {
     match payload::remove_escapes(raw, output) {
         Removed::Done(bits) => handed(bits),
-        Removed::Full => refusal(12, 0),
-        Removed::TooLong => refusal(13, 0),
+        Removed::Full => refusal(12),
+        Removed::TooLong => refusal(13),
     }
 }
 

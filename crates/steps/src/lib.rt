@@ -1,6 +1,6 @@
 // What follows a unit, by its kind: the next state, or why the unit is refused.
-use bodies::ExtensionReading;
-use bodies::HeaderReading;
+use bodies::ExtensionAnswer;
+use bodies::HeaderAnswer;
 use bodies::Scope;
 use grammar::Reason;
 use grammar::SliceRule;
@@ -29,15 +29,15 @@ fn all_zero(body: &[u8]) -> bool
 pub fn header_step(body: &[u8]) -> Step
     ensures { λ r. ⌜ r ≡ headerStep (now (body .entry)) ⌝ }
 {
-    match bodies::read_header(body) {
-        HeaderReading::Header(h) => {
+    match bodies::sequence_header(body) {
+        HeaderAnswer::Header(h) => {
             let rule = SliceRule {
                 tested: macroblocks::slices_tested(h),
                 rows: macroblocks::macroblock_rows(h),
             };
             Step::Go(State::Head(rule, false))
         }
-        HeaderReading::Faulty(fault) => Step::Stop(Reason::Body(fault)),
+        HeaderAnswer::Refused(fault) => Step::Stop(Reason::Body(fault)),
     }
 }
 
@@ -45,11 +45,11 @@ pub fn header_step(body: &[u8]) -> Step
 pub fn extension_step(body: &[u8], scope: Scope, next: State) -> Step
     ensures { λ r. ⌜ r ≡ by (extensionResult scope (now (body .entry))) (λ x. next) ⌝ }
 {
-    match bodies::read_extension(body, scope) {
-        ExtensionReading::Display(_) => Step::Go(next),
-        ExtensionReading::Copyright(_) => Step::Go(next),
-        ExtensionReading::Opaque(_) => Step::Go(next),
-        ExtensionReading::Faulty(fault) => Step::Stop(Reason::Body(fault)),
+    match bodies::extension(body, scope) {
+        ExtensionAnswer::Display(_) => Step::Go(next),
+        ExtensionAnswer::Copyright(_) => Step::Go(next),
+        ExtensionAnswer::Opaque(_) => Step::Go(next),
+        ExtensionAnswer::Refused(fault) => Step::Stop(Reason::Body(fault)),
     }
 }
 

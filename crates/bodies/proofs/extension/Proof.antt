@@ -1,63 +1,62 @@
--- The reading, with the reason of its fault.
+-- An empty body has no number, and is SHORT; any other goes by its number.
 use mathlib.Core.Path.{_≡_, sym, ap, _∙_}
-use Rattle.bodies.specs.Answers.{extensionGives, extensionSays}
-use Rattle.bodies.specs.Reader.{answerOf, extensionOf}
-use Rattle.bodies.specs.declared.ExtensionReading.{ExtensionReading}
-use Rattle.bodies.proofs.AnswerLaws.{refused-by}
+use Rattle.bits.specs.declared.Read.{Read}
+use Rattle.layout.specs.Reader.{readValue}
+use Rattle.bodies.specs.Reader.{byNumber, extensionResult, extensionOf}
+use Rattle.answers.specs.Results.{_>>=_}
+use Rattle.bodies.specs.Answers.{answerOf, extensionGives, extensionSays}
 use borrow.Author.Needs.{needs}
 use Rattle.bodies.proofs.extension.Statement.{statement}
 use Rattle.bodies.proofs.extension.Tie as tie
 
-answered : (c : tie.After-read-extension) (x : ExtensionReading) → c .read-extension .result ≡ x →
-    answerOf (extensionGives x) ≡ extensionOf (c .before .before .args .scope) (c .before .before .args .body .now)
-unfolding extensionOf
-answered c x e = ap answerOf (ap extensionGives (sym e) ∙ c .read-extension .ensures)
+module _ (c : tie.After-number-of) where
+  abbrev entry : tie.Start
+  entry = c .before .before
 
-read-extension-requires : tie.Need-read-extension-requires
-read-extension-requires c κs = search needs
+  by-read : (x : Read) → c .number-of .result ≡ x → answerOf (readValue x >>= byNumber (entry .args .scope) (entry .args .body .now)) ≡ extensionOf (entry .args .scope) (entry .args .body .now)
+  unfolding extensionOf extensionResult
+  by-read x e =
+      let a = entry .args in
+      ap (λ (x : Read). answerOf (readValue x >>= byNumber (a .scope) (a .body .now))) (sym (sym (c .number-of .ensures) ∙ e))
 
-enum-known-display : tie.Need-enum-known-display
-enum-known-display c = search needs
-
-enum-known-copyright : tie.Need-enum-known-copyright
-enum-known-copyright c = search needs
+number-of-requires : tie.Need-number-of-requires
+number-of-requires c κs = search needs
 
 enum-known-number : tie.Need-enum-known-number
 enum-known-number c = search needs
 
-enum-known-fault : tie.Need-enum-known-fault
-enum-known-fault c = search needs
+by-number-requires : tie.Need-by-number-requires
+by-number-requires c κs = search needs
 
-reason-of-requires : tie.Need-reason-of-requires
-reason-of-requires c κs = search needs
+enum-told : tie.Need-enum-told
+enum-told c = search needs
+
+enum-told-2 : tie.Need-enum-told-2
+enum-told-2 c = search needs
 
 returns : tie.Need-returns
-unfolding extensionGives extensionSays answerOf
-returns c = answered (c .before .before .before) _ (c .before .display .given .1)
+unfolding extensionSays
+returns c =
+    let r = c .before .before .before .before in
+    ap answerOf (c .by-number .ensures) ∙ by-read r _ (c .before .before .number .given .1)
 
 returns-2 : tie.Need-returns-2
-unfolding extensionGives extensionSays answerOf
-returns-2 c = answered (c .before .before .before) _ (c .before .copyright .given .1)
+unfolding extensionGives extensionSays
+returns-2 c = by-read (c .before .before) _ (c .enum-told .given .1)
 
 returns-3 : tie.Need-returns-3
-unfolding extensionGives extensionSays answerOf
-returns-3 c = answered (c .before .before .before) _ (c .before .number .given .1)
-
-returns-4 : tie.Need-returns-4
 unfolding extensionGives extensionSays
-returns-4 c = let f = c .before .before in refused-by _ _ (c .reason-of .ensures) ∙ answered (f .before .before) _ (f .fault .given .1)
+returns-3 c = by-read (c .before .before) _ (c .enum-told2 .given .1)
 
 pub extension-spec : {M : Type 1} → statement M
 extension-spec =
     tie.close
     (tie.spec
-    read-extension-requires
-    enum-known-display
-    enum-known-copyright
+    number-of-requires
     enum-known-number
-    enum-known-fault
-    reason-of-requires
+    by-number-requires
+    enum-told
+    enum-told-2
     returns
     returns-2
-    returns-3
-    returns-4)
+    returns-3)

@@ -34,8 +34,11 @@ advanced c = what (c .before .before .before) (c .before .next .given .1)
 prefix-at-requires : tie.Need-prefix-at-requires Inv-loop μ-loop
 prefix-at-requires c κs = search needs
 
+refused-at-requires : tie.Need-refused-at-requires Inv-loop μ-loop
+refused-at-requires c κs = search needs
+
 returns : tie.Need-returns Inv-loop μ-loop
-returns c = let a = c .before .before .before .args in no-code (a .stream .now) (sym (c .before .prefix-at .ensures) ∙ not-true _ (c .if1 .taken))
+returns c = let t = c .before in let a = t .before .before .before .args in c .refused-at .ensures ∙ no-code (a .stream .now) (sym (t .before .prefix-at .ensures) ∙ not-true _ (t .if1 .taken))
 
 loop-holds : tie.Need-loop-holds Inv-loop μ-loop
 loop-holds c = let a = c .before .before .before .args in checking-start (a .stream .now) (sym (c .before .prefix-at .ensures) ∙ not-false _ (c .if1 .left))
@@ -58,14 +61,20 @@ loop-again c = let l = c .before .before .before .before .before in checking-nex
 enum-known-why : tie.Need-enum-known-why Inv-loop μ-loop
 enum-known-why c = search needs
 
+refused-at-requires-2 : tie.Need-refused-at-requires-2 Inv-loop μ-loop
+refused-at-requires-2 c κs = search needs
+
 returns-2 : tie.Need-returns-2 Inv-loop μ-loop
-returns-2 c = let u = c .before .before .before in let l = u .before .before in sym (l .loop .inv .count ∙ ap (counted (l .loop .units)) (what u (c .before .why .given .1)))
+returns-2 c = let w = c .before .before in let u = w .before .before in let l = u .before .before in c .refused-at2 .ensures ∙ sym (l .loop .inv .count ∙ ap (counted (l .loop .units)) (what u (w .why .given .1)))
 
 enum-told : tie.Need-enum-told Inv-loop μ-loop
 enum-told c = search needs
 
+refused-at-requires-3 : tie.Need-refused-at-requires-3 Inv-loop μ-loop
+refused-at-requires-3 c κs = search needs
+
 returns-3 : tie.Need-returns-3 Inv-loop μ-loop
-returns-3 c = absurd (what (c .before .before) (c .enum-told .given .1))
+returns-3 c = absurd (what (c .before .before .before) (c .before .enum-told .given .1))
 
 is-final-requires : tie.Need-is-final-requires Inv-loop μ-loop
 is-final-requires c κs = search needs
@@ -73,8 +82,11 @@ is-final-requires c κs = search needs
 returns-4 : tie.Need-returns-4 Inv-loop μ-loop
 returns-4 c = let l = c .before .before .before in end-good (stream-of l) (l .loop .state) (l .loop .at) (l .loop .units) (l .loop .inv) (c .before .before .loop-test .left) (sym (c .before .is-final .ensures) ∙ c .if2 .taken)
 
+refused-at-requires-4 : tie.Need-refused-at-requires-4 Inv-loop μ-loop
+refused-at-requires-4 c κs = search needs
+
 returns-5 : tie.Need-returns-5 Inv-loop μ-loop
-returns-5 c = let l = c .before .before .before in end-unended (stream-of l) (l .loop .state) (l .loop .at) (l .loop .units) (l .loop .inv) (c .before .before .loop-test .left) (sym (c .before .is-final .ensures) ∙ c .if2 .left)
+returns-5 c = let e = c .before in let l = e .before .before .before in c .refused-at4 .ensures ∙ end-unended (stream-of l) (l .loop .state) (l .loop .at) (l .loop .units) (l .loop .inv) (e .before .before .loop-test .left) (sym (e .before .is-final .ensures) ∙ e .if2 .left)
 
 pub check-units-spec : {M : Type 1} → statement M
 check-units-spec =
@@ -83,6 +95,7 @@ check-units-spec =
     Inv-loop
     μ-loop
     prefix-at-requires
+    refused-at-requires
     returns
     loop-holds
     unit-at-requires
@@ -91,9 +104,12 @@ check-units-spec =
     loop-less
     loop-again
     enum-known-why
+    refused-at-requires-2
     returns-2
     enum-told
+    refused-at-requires-3
     returns-3
     is-final-requires
     returns-4
+    refused-at-requires-4
     returns-5)

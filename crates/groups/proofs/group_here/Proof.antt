@@ -2,7 +2,7 @@
 use mathlib.Core.Path.{_≡_, sym, ap, _∙_}
 use borrow.Author.Needs.{needs}
 use Rattle.answers.specs.Answers.{Outcome, done}
-use Rattle.bodies.specs.Answers.{headerSays}
+use Rattle.bodies.specs.Answers.{answerOf, headerGives, headerSays}
 use Rattle.bodies.specs.Reader.{headerOf}
 use Rattle.bodies.specs.declared.HeaderAnswer.{HeaderAnswer}
 use Rattle.bodies.specs.declared.SequenceHeader.{SequenceHeader}
@@ -27,11 +27,11 @@ enum-told : tie.Need-enum-told
 enum-told c = search needs
 
 returns : tie.Need-returns
-unfolding headerSays
+unfolding headerSays headerGives answerOf
 returns c = ap (λ (d : Display). done (record { header = c .before .before .header .given .0 .0; display = d })) (c .display-from .ensures) ∙ said (c .before .before .before .before) (c .before .before .header .given .1) _
 
 returns-2 : tie.Need-returns-2
-unfolding headerSays
+unfolding headerSays headerGives answerOf
 returns-2 c = said (c .before .before) (c .enum-told .given .1) _
 
 pub group-here-spec : {M : Type 1} → statement M

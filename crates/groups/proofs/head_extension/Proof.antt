@@ -2,7 +2,7 @@
 use mathlib.Core.Path.{_≡_, sym, ap, _∙_}
 use borrow.Author.Needs.{needs}
 use Rattle.answers.specs.Answers.{Outcome}
-use Rattle.bodies.specs.Answers.{Extension, extensionSays}
+use Rattle.bodies.specs.Answers.{answerOf, Extension, extensionGives, extensionSays}
 use Rattle.bodies.specs.Reader.{extensionOf}
 use Rattle.bodies.specs.declared.ExtensionAnswer.{ExtensionAnswer}
 use Rattle.bodies.specs.declared.Scope.the-variants.{Head}
@@ -31,19 +31,19 @@ enum-told-3 : tie.Need-enum-told-3
 enum-told-3 c = search needs
 
 returns : tie.Need-returns
-unfolding extensionSays
+unfolding extensionSays extensionGives answerOf
 returns c = said (c .before .before .before) (c .before .d .given .1)
 
 returns-2 : tie.Need-returns-2
-unfolding extensionSays
+unfolding extensionSays extensionGives answerOf
 returns-2 c = said (c .before .before) (c .enum-told .given .1)
 
 returns-3 : tie.Need-returns-3
-unfolding extensionSays
+unfolding extensionSays extensionGives answerOf
 returns-3 c = said (c .before .before) (c .enum-told2 .given .1)
 
 returns-4 : tie.Need-returns-4
-unfolding extensionSays
+unfolding extensionSays extensionGives answerOf
 returns-4 c = said (c .before .before) (c .enum-told3 .given .1)
 
 pub head-extension-spec : {M : Type 1} → statement M

@@ -1,7 +1,7 @@
 -- The numbers of what was read, or the refusal.
 use mathlib.Core.Path.{_≡_, ap, _∙_}
 use borrow.Author.Needs.{needs}
-use Rattle.bodies.specs.Answers.{extensionSays}
+use Rattle.bodies.specs.Answers.{answerOf, extensionGives, extensionSays}
 use Rattle.bodies.specs.Reader.{extensionOf}
 use Rattle.handover.specs.Numbers.{scopeFor, extensionNumbers}
 use Rattle.handover.proofs.HandedLaws.{arm-hands, handed-refused}
@@ -17,7 +17,7 @@ module _ (k : tie.After-extension) where
   read = k .extension .ensures ∙ ap (λ p. extensionOf p (start .args .body .now)) (k .before .scope-for .ensures)
 
 returns : tie.Need-returns
-unfolding extensionSays
+unfolding extensionSays extensionGives answerOf
 returns c =
     let o = c .before .before in
     let g = o .before .before .before .before in
@@ -25,7 +25,7 @@ returns c =
     arm-hands extensionNumbers extensionSays (start k .args .numbers .now) (g .d .given .1) (read k) (o .hand-display .ensures)
 
 returns-2 : tie.Need-returns-2
-unfolding extensionSays
+unfolding extensionSays extensionGives answerOf
 returns-2 c =
     let o = c .before .before in
     let g = o .before .before .before in
@@ -33,7 +33,7 @@ returns-2 c =
     arm-hands extensionNumbers extensionSays (start k .args .numbers .now) (g .c .given .1) (read k) (o .hand-copyright .ensures)
 
 returns-3 : tie.Need-returns-3
-unfolding extensionSays
+unfolding extensionSays extensionGives answerOf
 returns-3 c =
     let o = c .before .before in
     let g = o .before .before .before .before in
@@ -41,7 +41,7 @@ returns-3 c =
     arm-hands extensionNumbers extensionSays (start k .args .numbers .now) (g .number .given .1) (read k) (o .hand-over .ensures)
 
 returns-4 : tie.Need-returns-4
-unfolding extensionSays
+unfolding extensionSays extensionGives answerOf
 returns-4 c =
     let g = c .before .before in
     let k = g .before .before in

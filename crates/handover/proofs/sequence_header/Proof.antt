@@ -1,13 +1,13 @@
 -- The header's numbers, or the body's refusal.
 use borrow.Author.Needs.{needs}
-use Rattle.bodies.specs.Answers.{headerSays}
+use Rattle.bodies.specs.Answers.{answerOf, headerGives, headerSays}
 use Rattle.handover.specs.Numbers.{headerNumbers}
 use Rattle.handover.proofs.HandedLaws.{arm-hands, handed-refused}
 use Rattle.handover.proofs.sequence_header.Statement.{statement}
 use Rattle.handover.proofs.sequence_header.Tie as tie
 
 returns : tie.Need-returns
-unfolding headerSays headerNumbers
+unfolding headerSays headerGives answerOf headerNumbers
 returns c =
     let o = c .before .before in
     let g = o .before .before .before in
@@ -15,7 +15,7 @@ returns c =
     arm-hands headerNumbers headerSays (k .before .before .before .args .numbers .now) (g .h .given .1) (k .sequence-header .ensures) (o .hand-group .ensures)
 
 returns-2 : tie.Need-returns-2
-unfolding headerSays
+unfolding headerSays headerGives answerOf
 returns-2 c =
     let g = c .before .before in
     let k = g .before .before in

@@ -12,12 +12,6 @@ use Rattle.layout.proofs.allowed.Tie as tie
 allows-same : (rule other : Values) (v : ℕ) → rule ≡ other → allows other v ≡ allows rule v
 allows-same rule other v e = sym (ap (λ (r : Values). allows r v) e)
 
-enum-told : tie.Need-enum-told
-enum-told c = search needs
-
-enum-told-2 : tie.Need-enum-told-2
-enum-told-2 c = search needs
-
 enum-known-values : tie.Need-enum-known-values
 enum-known-values c = search needs
 
@@ -38,34 +32,26 @@ within-requires-2 c κs = search needs
 
 returns : tie.Need-returns
 unfolding allows
-returns c = allows-same _ _ (c .before .before .args .v) (c .enum-told .given .1)
+returns c = allows-same _ _ (c .before .before .before .args .v) (c .before .values .given .1)
 
 returns-2 : tie.Need-returns-2
 unfolding allows
-returns-2 c = allows-same _ _ (c .before .before .args .v) (c .enum-told2 .given .1)
+returns-2 c = allows-same _ _ (c .before .before .before .args .v) (c .before .values2 .given .1)
 
 returns-3 : tie.Need-returns-3
 unfolding allows
-returns-3 c = allows-same _ _ (c .before .before .before .args .v) (c .before .values .given .1)
+returns-3 c = c .within .ensures ∙ allows-same _ _ (c .before .before .before .before .args .v) (c .before .before .values3 .given .1)
 
 returns-4 : tie.Need-returns-4
 unfolding allows
-returns-4 c = allows-same _ _ (c .before .before .before .args .v) (c .before .values2 .given .1)
-
-returns-5 : tie.Need-returns-5
-unfolding allows
-returns-5 c = c .within .ensures ∙ allows-same _ _ (c .before .before .before .before .args .v) (c .before .before .values3 .given .1)
-
-returns-6 : tie.Need-returns-6
-unfolding allows
-returns-6 c =
+returns-4 c =
     let v = c .before .before .before .before .before .args .v in
     let g = c .before .before .before .values4 .given in
     ap (λ (t : Bool). t && not (eqb v (g .0 .1 .1 .0))) (sym (c .if1 .taken) ∙ c .before .within2 .ensures) ∙ allows-same _ _ v (g .1)
 
-returns-7 : tie.Need-returns-7
+returns-5 : tie.Need-returns-5
 unfolding allows
-returns-7 c =
+returns-5 c =
     let v = c .before .before .before .before .before .args .v in
     let g = c .before .before .before .values4 .given in
     c .if1 .left ∙ ap (λ (t : Bool). t && not (eqb v (g .0 .1 .1 .0))) (sym (c .if1 .left) ∙ c .before .within2 .ensures) ∙ allows-same _ _ v (g .1)
@@ -74,8 +60,6 @@ pub allowed-spec : {M : Type 1} → statement M
 allowed-spec =
     tie.close
     (tie.spec
-    enum-told
-    enum-told-2
     enum-known-values
     enum-known-values-2
     enum-known-values-3
@@ -86,6 +70,4 @@ allowed-spec =
     returns-2
     returns-3
     returns-4
-    returns-5
-    returns-6
-    returns-7)
+    returns-5)

@@ -2,14 +2,13 @@
 use Prim.Native.Nat.{ℕ, _+_}
 use mathlib.Core.Path.{_≡_, refl, sym, ap, _∙_}
 use mathlib.Core.List.{List}
-use mathlib.Core.Bool.{Bool, not}
-use Rattle.answers.specs.Results.{good, bad}
+use Rattle.answers.specs.Results.{good}
 use Rattle.bits.specs.Bits.{bitsOf, payload, readAt}
 use Rattle.bits.specs.declared.Read.{Read}
-use Rattle.layout.specs.Layouts.{widthOf, faultAt}
-use Rattle.layout.specs.Reader.{Result, _>>_, refuseIf}
+use Rattle.layout.specs.Layouts.{widthOf}
+use Rattle.layout.specs.Reader.{_>>_}
 use Rattle.layout.specs.Inside.{taken}
-use Rattle.layout.specs.declared.Fault.{Fault}
+use Rattle.layout.specs.declared.Verdict.{Verdict}
 use Rattle.layout.proofs.ReadingLaws.{read-inside, taken-value, taken-fail}
 use borrow.Author.Needs.{needs}
 use Rattle.layout.proofs.read_field.Statement.{statement}
@@ -19,14 +18,21 @@ module _ (c : tie.After-read-bits) where
   abbrev entry : tie.Start
   entry = c .before .before .before
 
-  abbrev judged : ℕ → Bool → Result ℕ
-  judged v t = refuseIf (not t) (faultAt (entry .args .field) (entry .args .at)) >> good v
-
   read-is : (x : Read) → c .read-bits .result ≡ x → readAt (bitsOf (entry .args .body .now)) (entry .args .at) (widthOf (entry .args .field)) ≡ x
   read-is x e =
       let a = entry .args in
       let w = widthOf (a .field) in
       sym (c .read-bits .ensures ∙ ap (λ (n : ℕ). readAt (payload (a .body .now) (a .at + n)) (a .at) w) (c .before .wide .ensures) ∙ read-inside (bitsOf (a .body .now)) (a .at) w) ∙ e
+
+-- a value that is read, and what is found of it
+judged : (c : tie.After-ruled-on) (w : Verdict) → c .ruled-on .result ≡ w →
+    taken (entry (c .before .before .before .before) .args .field) (entry (c .before .before .before .before) .args .at) (bitsOf (entry (c .before .before .before .before) .args .body .now))
+    ≡ (w >> good (c .before .before .value .given .0 .0))
+judged c w e =
+    let r = c .before .before .before .before in
+    let a = entry r .args in
+    let g = c .before .before .value .given in
+    taken-value (a .field) (a .at) _ (bitsOf (a .body .now)) (read-is r _ (g .1)) ∙ ap (λ (x : Verdict). x >> good (g .0 .0)) (sym (c .ruled-on .ensures) ∙ e)
 
 wide-requires : tie.Need-wide-requires
 wide-requires c κs = search needs
@@ -40,36 +46,32 @@ read-bits-requires c κs = search needs
 enum-known-value : tie.Need-enum-known-value
 enum-known-value c = search needs
 
-allowed-requires : tie.Need-allowed-requires
-allowed-requires c κs = search needs
-
-fault-at-requires : tie.Need-fault-at-requires
-fault-at-requires c κs = search needs
+ruled-on-requires : tie.Need-ruled-on-requires
+ruled-on-requires c κs = search needs
 
 enum-told : tie.Need-enum-told
 enum-told c = search needs
 
+enum-known-fault : tie.Need-enum-known-fault
+enum-known-fault c = search needs
+
 enum-told-2 : tie.Need-enum-told-2
 enum-told-2 c = search needs
 
+enum-told-3 : tie.Need-enum-told-3
+enum-told-3 c = search needs
+
 returns : tie.Need-returns
-returns c =
-    let r = c .before .before .before .before .before in
-    let a = entry r .args in
-    sym (taken-value (a .field) (a .at) _ (bitsOf (a .body .now)) (read-is r _ (c .before .before .before .value .given .1)) ∙ ap (judged r _) (sym (c .before .allowed .ensures) ∙ c .if1 .taken))
+returns c = sym (judged (c .before .before) _ (c .enum-told .given .1))
 
 returns-2 : tie.Need-returns-2
-returns-2 c =
-    let r = c .before .before .before .before .before .before in
-    let a = entry r .args in
-    ap bad (c .fault-at .ensures)
-    ∙ sym (taken-value (a .field) (a .at) _ (bitsOf (a .body .now)) (read-is r _ (c .before .before .before .before .value .given .1)) ∙ ap (judged r (c .before .before .before .before .value .given .0 .0)) (sym (c .before .before .allowed .ensures) ∙ c .before .if1 .left))
+returns-2 c = sym (judged (c .before .before .before) _ (c .before .fault .given .1))
 
 returns-3 : tie.Need-returns-3
-returns-3 c = let r = c .before .before in let a = entry r .args in sym (taken-fail (a .field) (a .at) (bitsOf (a .body .now)) _ (read-is r _ (c .enum-told .given .1)) refl)
+returns-3 c = let r = c .before .before in let a = entry r .args in sym (taken-fail (a .field) (a .at) (bitsOf (a .body .now)) _ (read-is r _ (c .enum-told2 .given .1)) refl)
 
 returns-4 : tie.Need-returns-4
-returns-4 c = let r = c .before .before in let a = entry r .args in sym (taken-fail (a .field) (a .at) (bitsOf (a .body .now)) _ (read-is r _ (c .enum-told2 .given .1)) refl)
+returns-4 c = let r = c .before .before in let a = entry r .args in sym (taken-fail (a .field) (a .at) (bitsOf (a .body .now)) _ (read-is r _ (c .enum-told3 .given .1)) refl)
 
 pub read-field-spec : {M : Type 1} → statement M
 read-field-spec =
@@ -79,10 +81,11 @@ read-field-spec =
     add-read-bits
     read-bits-requires
     enum-known-value
-    allowed-requires
-    fault-at-requires
+    ruled-on-requires
     enum-told
+    enum-known-fault
     enum-told-2
+    enum-told-3
     returns
     returns-2
     returns-3

@@ -1,15 +1,12 @@
--- The reason's number, and the offset.
-use Prim.Native.Nat.{ℕ}
-use mathlib.Core.Path.{ap, _∙_}
-use mathlib.Core.List.{[], _∷_}
+-- The number and the bit of the reason, and the offset.
 use borrow.Author.Needs.{needs}
-use Rattle.answers.specs.Answers.{refused}
-use Rattle.statuses.specs.Answers.{counted}
 use Rattle.statuses.proofs.refused_stream.Statement.{statement}
 use Rattle.statuses.proofs.refused_stream.Tie as tie
 
 returns : tie.Need-returns
-returns c = c .refusal .ensures ∙ ap (λ (n : ℕ). counted (refused n (c .before .before .args .why .offset ∷ []))) (c .before .filing-number .ensures)
+returns c =
+    let why = c .before .before .args .why in
+    λ i. record { status = c .before .reason-number .ensures i; offset = why .offset; count = 0; bit = c .reason-bit .ensures i }
 
 pub refused-stream-spec : {M : Type 1} → statement M
 refused-stream-spec = tie.close (tie.spec

@@ -3,21 +3,22 @@ use mathlib.Core.Path.{_≡_, sym, ap, _∙_}
 use borrow.Author.Needs.{needs}
 use Rattle.bodies.specs.Answers.{extensionGives}
 use Rattle.bodies.specs.Reader.{extensionResult}
-use Rattle.bodies.specs.declared.ExtensionReading.{ExtensionReading}
+use Rattle.bodies.specs.declared.ExtensionAnswer.{ExtensionAnswer}
+use Rattle.bodies.proofs.SaysLaws.{extension-given}
 use Rattle.grammar.specs.Reader.{by}
 use Rattle.steps.proofs.extension_step.Statement.{statement}
 use Rattle.steps.proofs.extension_step.Tie as tie
 
--- what a reading gives is the step
-given : (c : tie.After-read-extension) {y : ExtensionReading} → c .read-extension .result ≡ y →
+-- what the answer gives is the step
+given : (c : tie.After-extension) {y : ExtensionAnswer} → c .extension .result ≡ y →
     let a = c .before .before .args in
     by (extensionGives y) (λ x. a .next) ≡ by (extensionResult (a .scope) (a .body .now)) (λ x. a .next)
 given c e =
     let a = c .before .before .args in
-    ap (λ (y : ExtensionReading). by (extensionGives y) (λ x. a .next)) (sym e) ∙ ap (λ r. by r (λ x. a .next)) (c .read-extension .ensures)
+    ap (λ (y : ExtensionAnswer). by (extensionGives y) (λ x. a .next)) (sym e) ∙ ap (λ r. by r (λ x. a .next)) (extension-given (a .scope) _ _ (c .extension .ensures))
 
-read-extension-requires : tie.Need-read-extension-requires
-read-extension-requires c κs = search needs
+extension-requires : tie.Need-extension-requires
+extension-requires c κs = search needs
 
 enum-told : tie.Need-enum-told
 enum-told c = search needs
@@ -51,7 +52,7 @@ pub extension-step-spec : {M : Type 1} → statement M
 extension-step-spec =
     tie.close
     (tie.spec
-    read-extension-requires
+    extension-requires
     enum-told
     enum-told-2
     enum-told-3

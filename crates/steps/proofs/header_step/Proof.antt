@@ -4,8 +4,9 @@ use mathlib.Core.Path.{_≡_, sym, ap, _∙_}
 use mathlib.Core.Bool.{Bool, false}
 use borrow.Author.Needs.{needs}
 use Rattle.bodies.specs.Answers.{headerGives}
-use Rattle.bodies.specs.declared.HeaderReading.{HeaderReading}
+use Rattle.bodies.specs.declared.HeaderAnswer.{HeaderAnswer}
 use Rattle.bodies.specs.declared.SequenceHeader.{SequenceHeader}
+use Rattle.bodies.proofs.SaysLaws.{header-given}
 use Rattle.macroblocks.specs.Macroblocks.{slicesTested, macroblockRows}
 use Rattle.grammar.specs.Grammar.{sliceRule}
 use Rattle.grammar.specs.Reader.{by, headerStep}
@@ -19,15 +20,15 @@ use Rattle.steps.proofs.header_step.Tie as tie
 abbrev next : SequenceHeader → State
 next h = Head (sliceRule h) false
 
--- what a reading gives is the step
-given : (c : tie.After-read-header) {y : HeaderReading} → c .read-header .result ≡ y → by (headerGives y) next ≡ headerStep (c .before .before .args .body .now)
-given c e = ap (λ (y : HeaderReading). by (headerGives y) next) (sym e) ∙ ap (λ r. by r next) (c .read-header .ensures)
+-- what the answer gives is the step
+given : (c : tie.After-sequence-header) {y : HeaderAnswer} → c .sequence-header .result ≡ y → by (headerGives y) next ≡ headerStep (c .before .before .args .body .now)
+given c e = ap (λ (y : HeaderAnswer). by (headerGives y) next) (sym e) ∙ ap (λ r. by r next) (header-given _ _ (c .sequence-header .ensures))
 
 same-rule : (h : SequenceHeader) (tested : Bool) (rows : ℕ) → tested ≡ slicesTested h → rows ≡ macroblockRows h → record { tested = tested; rows = rows } ≡ sliceRule h
 same-rule h tested rows p q = λ i. record { tested = p i; rows = q i }
 
-read-header-requires : tie.Need-read-header-requires
-read-header-requires c κs = search needs
+sequence-header-requires : tie.Need-sequence-header-requires
+sequence-header-requires c κs = search needs
 
 enum-known-h : tie.Need-enum-known-h
 enum-known-h c = search needs
@@ -53,7 +54,7 @@ pub header-step-spec : {M : Type 1} → statement M
 header-step-spec =
     tie.close
     (tie.spec
-    read-header-requires
+    sequence-header-requires
     enum-known-h
     slices-tested-requires
     macroblock-rows-requires
