@@ -4,7 +4,7 @@ use mathlib.Core.Path.{_≡_}
 use mathlib.Core.List.{List, [], _∷_, _++_}
 use lib.IntN.{ℤ, pos, negℤ}
 use lib.ListN.{length}
-use Rattle.answers.specs.Answers.{Outcome, done, refused, mapDone, NO-CODE, CUT, VALUE, STUFFING, UNENDED, FULL, PAYLOAD-OUT, andThen}
+use Rattle.answers.specs.Answers.{Carried, at-offset, at-bit, Outcome, done, refused, mapDone, NO-CODE, CUT, STUFFING, UNENDED, FULL, PAYLOAD-OUT, VALUE-SLICE-ROW, andThen}
 use Rattle.bits.specs.Lists.{All}
 use Rattle.startcode.specs.declared.Kind.{Kind}
 use Rattle.bodies.specs.Reader.{headerOf}
@@ -39,6 +39,13 @@ answer stands-for n = record { answer = signed answer; table = signed (done n) }
 
 abbrev pub _is-a_ : Outcome Kind → Outcome Kind → Example
 answer is-a table = record { answer = kind answer; table = kind table }
+
+-- what a refusal carries: an offset, a bit
+abbrev pub at : ℕ → List Carried
+at offset = at-offset offset ∷ []
+
+abbrev pub bit : ℕ → List Carried
+bit place = at-bit place ∷ []
 
 -- ── streams ──
 
@@ -99,18 +106,18 @@ examples =
     -- 1
     ∷ filed (stream 0x80 0x00 sequenceEnd) 12 gives done (4 ∷ 176 ∷ 0 ∷ 15 ∷ 179 ∷ 19 ∷ 1 ∷ 0 ∷ 24 ∷ 1 ∷ 177 ∷ 29 ∷ 0 ∷ [])
     -- 2: with 11 words lent
-    ∷ filed (stream 0x80 0x00 sequenceEnd) 11 gives refused FULL (0 ∷ [])
+    ∷ filed (stream 0x80 0x00 sequenceEnd) 11 gives refused FULL (at 0)
     -- 3: without its last four bytes
-    ∷ filed (stream 0x80 0x00 []) 12 gives refused UNENDED (29 ∷ [])
+    ∷ filed (stream 0x80 0x00 []) 12 gives refused UNENDED (at 29)
     -- 4: without its last byte
-    ∷ filed (stream 0x80 0x00 (0 ∷ 0 ∷ 1 ∷ [])) 12 gives refused CUT (29 ∷ [])
+    ∷ filed (stream 0x80 0x00 (0 ∷ 0 ∷ 1 ∷ [])) 12 gives refused CUT (at 29)
     -- 5: empty stream
-    ∷ filed [] 12 gives refused NO-CODE (0 ∷ [])
+    ∷ filed [] 12 gives refused NO-CODE (at 0)
     -- 6: H with last byte 00, as a body and in the stream
     ∷ mapDone headerLine (headerOf (header 0x00)) gives refused STUFFING []
-    ∷ filed (stream 0x00 0x00 sequenceEnd) 12 gives refused STUFFING (0 ∷ [])
+    ∷ filed (stream 0x00 0x00 sequenceEnd) 12 gives refused STUFFING (at 0)
     -- 7: slice byte 44 for 00; 43 is filed
-    ∷ filed (stream 0x80 0x44 sequenceEnd) 12 gives refused VALUE (24 ∷ [])
+    ∷ filed (stream 0x80 0x44 sequenceEnd) 12 gives refused VALUE-SLICE-ROW (at 24 ++ bit 0)
     ∷ filed (stream 0x80 0x43 sequenceEnd) 12 gives done (4 ∷ 176 ∷ 0 ∷ 15 ∷ 179 ∷ 19 ∷ 1 ∷ 0x43 ∷ 24 ∷ 1 ∷ 177 ∷ 29 ∷ 0 ∷ [])
     -- 8: 30 bits, 00 00 03 00
     ∷ unescaped (0x00 ∷ 0x00 ∷ 0x02 ∷ 0xC0 ∷ []) (0xFF ∷ 0xFF ∷ 0xFF ∷ 0xFF ∷ []) gives done (30 ∷ 0x00 ∷ 0x00 ∷ 0x03 ∷ 0x00 ∷ [])

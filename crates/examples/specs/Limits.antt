@@ -6,7 +6,7 @@ use mathlib.Core.List.{List, [], _∷_, _++_, map}
 use mathlib.Core.Bool.{cond}
 use lib.IntN.{ℤ, pos, negℤ}
 use lib.ListN.{length, take, replicate}
-use Rattle.answers.specs.Answers.{Outcome, done, refused, mapDone, NO-CODE, CUT, OVERLAP, UNKNOWN, OUT-OF-PLACE, SHORT, MARKER, VALUE, STUFFING, TWICE, UNENDED, FULL, TOO-LONG, PAYLOAD-OUT, BAD-STATE, NO-ROW}
+use Rattle.answers.specs.Answers.{Outcome, done, refused, mapDone, NO-CODE, CUT, OVERLAP, UNKNOWN, OUT-OF-PLACE, SHORT, MARKER, VALUE, STUFFING, TWICE, UNENDED, FULL, TOO-LONG, PAYLOAD-OUT, BAD-STATE, NO-ROW, VALUE-WIDTH, VALUE-HEIGHT, VALUE-CHROMA, VALUE-PRECISION, VALUE-ASPECT, VALUE-RATE, VALUE-TRANSFER, VALUE-MATRIX, VALUE-STEREO, VALUE-COPYRIGHT-OWNER, VALUE-COPYRIGHT-NUMBER, VALUE-SLICE-ORDER, VALUE-SLICE-ROW}
 use Rattle.answers.specs.Limits.{longestStream, longestPayload, mostBits}
 use Rattle.startcode.specs.Kinds.{kindOf}
 use Rattle.startcode.specs.declared.Kind.the-variants as kind
@@ -32,7 +32,7 @@ use Rattle.contexts.specs.Contexts.{updateOf}
 use Rattle.aec.specs.Bins.{startOf, pairOf, bypassOf, stuffingOf, decodeOf, decodePairOf}
 use Rattle.aec.specs.declared.State.{State}
 use Rattle.contexts.specs.declared.Context.{Context}
-use Rattle.examples.specs.Examples.{Example, _gives_, _stands-for_, _is-a_, header, unescaped, signedNumber, stateNumbers, contextNumbers}
+use Rattle.examples.specs.Examples.{Example, at, bit, _gives_, _stands-for_, _is-a_, header, unescaped, signedNumber, stateNumbers, contextNumbers}
 
 -- ── answers ──
 
@@ -46,6 +46,10 @@ no number = refused number []
 abbrev pub status : {A : Type 0} → Outcome A → ℕ
 status (done a) = 0
 status (refused number carried) = number
+
+-- a refusal alone
+abbrev pub refusal : {A : Type 0} → Outcome A → Outcome (List ℕ)
+refusal o = mapDone (λ a. []) o
 
 -- the numbers of the answers for some values
 abbrev pub statuses : {A : Type 0} → (ℕ → Outcome A) → List ℕ → Outcome (List ℕ)
@@ -354,22 +358,22 @@ unitLimits =
     ∷ kindOf 0xB9 is-a refused UNKNOWN []
     ∷ kindOf 0xFF is-a refused UNKNOWN []
     -- UNKNOWN where nothing may stand, before OUT OF PLACE
-    ∷ counted (unit 0xB4 []) gives refused UNKNOWN (0 ∷ [])
-    ∷ counted (unit 0xB8 []) gives refused UNKNOWN (0 ∷ [])
-    ∷ counted (unit 0xFF []) gives refused UNKNOWN (0 ∷ [])
-    ∷ counted (unit 0xAF []) gives refused OUT-OF-PLACE (0 ∷ [])
-    ∷ counted (unit 0xB7 []) gives refused OUT-OF-PLACE (0 ∷ [])
+    ∷ counted (unit 0xB4 []) gives refused UNKNOWN (at 0)
+    ∷ counted (unit 0xB8 []) gives refused UNKNOWN (at 0)
+    ∷ counted (unit 0xFF []) gives refused UNKNOWN (at 0)
+    ∷ counted (unit 0xAF []) gives refused OUT-OF-PLACE (at 0)
+    ∷ counted (unit 0xB7 []) gives refused OUT-OF-PLACE (at 0)
     -- NO CODE: the first three bytes are not 00 00 01, or there are fewer
-    ∷ counted (0 ∷ 0 ∷ []) gives refused NO-CODE (0 ∷ [])
-    ∷ counted (0 ∷ 0 ∷ 2 ∷ []) gives refused NO-CODE (0 ∷ [])
-    ∷ counted (0 ∷ 0 ∷ 0 ∷ 1 ∷ []) gives refused NO-CODE (0 ∷ [])
+    ∷ counted (0 ∷ 0 ∷ []) gives refused NO-CODE (at 0)
+    ∷ counted (0 ∷ 0 ∷ 2 ∷ []) gives refused NO-CODE (at 0)
+    ∷ counted (0 ∷ 0 ∷ 0 ∷ 1 ∷ []) gives refused NO-CODE (at 0)
     -- CUT: no code byte; OVERLAP: code byte 00 followed by 00 01, at the stream's end too
-    ∷ counted (0 ∷ 0 ∷ 1 ∷ []) gives refused CUT (0 ∷ [])
-    ∷ counted (0 ∷ 0 ∷ 1 ∷ 0 ∷ []) gives refused OUT-OF-PLACE (0 ∷ [])
-    ∷ counted (0 ∷ 0 ∷ 1 ∷ 0 ∷ 0 ∷ []) gives refused OUT-OF-PLACE (0 ∷ [])
-    ∷ counted (0 ∷ 0 ∷ 1 ∷ 0 ∷ 0 ∷ 1 ∷ []) gives refused OVERLAP (0 ∷ [])
-    ∷ counted (0 ∷ 0 ∷ 1 ∷ 0 ∷ 0 ∷ 1 ∷ 0xB0 ∷ []) gives refused OVERLAP (0 ∷ [])
-    ∷ counted (0 ∷ 0 ∷ 1 ∷ 0 ∷ 0 ∷ 0 ∷ 1 ∷ []) gives refused OUT-OF-PLACE (0 ∷ [])
+    ∷ counted (0 ∷ 0 ∷ 1 ∷ []) gives refused CUT (at 0)
+    ∷ counted (0 ∷ 0 ∷ 1 ∷ 0 ∷ []) gives refused OUT-OF-PLACE (at 0)
+    ∷ counted (0 ∷ 0 ∷ 1 ∷ 0 ∷ 0 ∷ []) gives refused OUT-OF-PLACE (at 0)
+    ∷ counted (0 ∷ 0 ∷ 1 ∷ 0 ∷ 0 ∷ 1 ∷ []) gives refused OVERLAP (at 0)
+    ∷ counted (0 ∷ 0 ∷ 1 ∷ 0 ∷ 0 ∷ 1 ∷ 0xB0 ∷ []) gives refused OVERLAP (at 0)
+    ∷ counted (0 ∷ 0 ∷ 1 ∷ 0 ∷ 0 ∷ 0 ∷ 1 ∷ []) gives refused OUT-OF-PLACE (at 0)
     ∷ []
 
 -- ── "Layouts": sequence header ──
@@ -387,19 +391,19 @@ headerLimits =
     -- reserved bits (15) may be anything
     ∷ headerIs (changed 15 7 leastHeader) gives done (0 ∷ 0 ∷ 0 ∷ 1 ∷ 1 ∷ 1 ∷ 1 ∷ 1 ∷ 1 ∷ 0 ∷ 0 ∷ 0 ∷ [])
     -- a size of 0: horizontal (3), vertical (4)
-    ∷ statuses (headerWith 3) (0 ∷ 1 ∷ 16383 ∷ []) gives done (8 ∷ 0 ∷ 0 ∷ [])
-    ∷ statuses (headerWith 4) (0 ∷ 1 ∷ 16383 ∷ []) gives done (8 ∷ 0 ∷ 0 ∷ [])
+    ∷ statuses (headerWith 3) (0 ∷ 1 ∷ 16383 ∷ []) gives done (20 ∷ 0 ∷ 0 ∷ [])
+    ∷ statuses (headerWith 4) (0 ∷ 1 ∷ 16383 ∷ []) gives done (21 ∷ 0 ∷ 0 ∷ [])
     -- the codes of chroma (5), precision (6), aspect (7) and rate (8)
-    ∷ statuses (headerWith 5) (0 ∷ 1 ∷ 2 ∷ 3 ∷ []) gives done (8 ∷ 0 ∷ 0 ∷ 8 ∷ [])
-    ∷ statuses (headerWith 6) (0 ∷ 1 ∷ 2 ∷ 3 ∷ 4 ∷ 5 ∷ 6 ∷ 7 ∷ []) gives done (8 ∷ 0 ∷ 8 ∷ 8 ∷ 8 ∷ 8 ∷ 8 ∷ 8 ∷ [])
-    ∷ statuses (headerWith 7) (0 ∷ 1 ∷ 2 ∷ 3 ∷ 4 ∷ 5 ∷ 6 ∷ 15 ∷ []) gives done (8 ∷ 0 ∷ 0 ∷ 0 ∷ 0 ∷ 8 ∷ 8 ∷ 8 ∷ [])
-    ∷ statuses (headerWith 8) (0 ∷ 1 ∷ 2 ∷ 3 ∷ 4 ∷ 5 ∷ 6 ∷ 7 ∷ 8 ∷ 9 ∷ 15 ∷ []) gives done (8 ∷ 0 ∷ 0 ∷ 0 ∷ 0 ∷ 0 ∷ 0 ∷ 0 ∷ 0 ∷ 8 ∷ 8 ∷ [])
+    ∷ statuses (headerWith 5) (0 ∷ 1 ∷ 2 ∷ 3 ∷ []) gives done (22 ∷ 0 ∷ 0 ∷ 22 ∷ [])
+    ∷ statuses (headerWith 6) (0 ∷ 1 ∷ 2 ∷ 3 ∷ 4 ∷ 5 ∷ 6 ∷ 7 ∷ []) gives done (23 ∷ 0 ∷ 23 ∷ 23 ∷ 23 ∷ 23 ∷ 23 ∷ 23 ∷ [])
+    ∷ statuses (headerWith 7) (0 ∷ 1 ∷ 2 ∷ 3 ∷ 4 ∷ 5 ∷ 6 ∷ 15 ∷ []) gives done (24 ∷ 0 ∷ 0 ∷ 0 ∷ 0 ∷ 24 ∷ 24 ∷ 24 ∷ [])
+    ∷ statuses (headerWith 8) (0 ∷ 1 ∷ 2 ∷ 3 ∷ 4 ∷ 5 ∷ 6 ∷ 7 ∷ 8 ∷ 9 ∷ 15 ∷ []) gives done (25 ∷ 0 ∷ 0 ∷ 0 ∷ 0 ∷ 0 ∷ 0 ∷ 0 ∷ 0 ∷ 25 ∷ 25 ∷ [])
     -- the markers (10, 13)
     ∷ statuses (headerWith 10) (0 ∷ 1 ∷ []) gives done (7 ∷ 0 ∷ [])
     ∷ statuses (headerWith 13) (0 ∷ 1 ∷ []) gives done (7 ∷ 0 ∷ [])
     -- fields in bit order, then the stuffing (16): the first that is wrong
-    ∷ headerIs (changed 8 0 (changed 10 0 leastHeader)) gives no VALUE
-    ∷ headerIs (changed 10 0 (changed 16 0 leastHeader)) gives no MARKER
+    ∷ headerIs (changed 8 0 (changed 10 0 leastHeader)) gives refused VALUE-RATE (bit 54)
+    ∷ headerIs (changed 10 0 (changed 16 0 leastHeader)) gives refused MARKER (bit 76)
     -- the stuffing, and the bytes asked for
     ∷ headerThen (0x80 ∷ []) gives done []
     ∷ headerThen (0x80 ∷ 0x00 ∷ 0x00 ∷ []) gives done []
@@ -463,11 +467,11 @@ extensionLimits =
     ∷ inHead (body 9 greatestColoured) gives done (2 ∷ 7 ∷ 1 ∷ 255 ∷ 10 ∷ 7 ∷ 16383 ∷ 16383 ∷ 2 ∷ [])
     -- primaries (4) are not judged; transfer (5) 0, 3 or above 10; matrix (6) 0, 3 or above 7
     ∷ statuses (colouredWith 4) (0 ∷ 3 ∷ 255 ∷ []) gives done (0 ∷ 0 ∷ 0 ∷ [])
-    ∷ statuses (colouredWith 5) (0 ∷ 1 ∷ 2 ∷ 3 ∷ 4 ∷ 5 ∷ 9 ∷ 10 ∷ 11 ∷ 255 ∷ []) gives done (8 ∷ 0 ∷ 0 ∷ 8 ∷ 0 ∷ 0 ∷ 0 ∷ 0 ∷ 8 ∷ 8 ∷ [])
-    ∷ statuses (colouredWith 6) (0 ∷ 1 ∷ 2 ∷ 3 ∷ 4 ∷ 5 ∷ 6 ∷ 7 ∷ 8 ∷ 255 ∷ []) gives done (8 ∷ 0 ∷ 0 ∷ 8 ∷ 0 ∷ 0 ∷ 0 ∷ 0 ∷ 8 ∷ 8 ∷ [])
+    ∷ statuses (colouredWith 5) (0 ∷ 1 ∷ 2 ∷ 3 ∷ 4 ∷ 5 ∷ 9 ∷ 10 ∷ 11 ∷ 255 ∷ []) gives done (26 ∷ 0 ∷ 0 ∷ 26 ∷ 0 ∷ 0 ∷ 0 ∷ 0 ∷ 26 ∷ 26 ∷ [])
+    ∷ statuses (colouredWith 6) (0 ∷ 1 ∷ 2 ∷ 3 ∷ 4 ∷ 5 ∷ 6 ∷ 7 ∷ 8 ∷ 255 ∷ []) gives done (27 ∷ 0 ∷ 0 ∷ 27 ∷ 0 ∷ 0 ∷ 0 ∷ 0 ∷ 27 ∷ 27 ∷ [])
     -- stereo (7, with colour 10) 3; format (1), width (4, with colour 7) and height (6, with colour 9) are not judged
-    ∷ statuses (plainWith 7) (0 ∷ 1 ∷ 2 ∷ 3 ∷ []) gives done (0 ∷ 0 ∷ 0 ∷ 8 ∷ [])
-    ∷ statuses (colouredWith 10) (0 ∷ 1 ∷ 2 ∷ 3 ∷ []) gives done (0 ∷ 0 ∷ 0 ∷ 8 ∷ [])
+    ∷ statuses (plainWith 7) (0 ∷ 1 ∷ 2 ∷ 3 ∷ []) gives done (0 ∷ 0 ∷ 0 ∷ 28 ∷ [])
+    ∷ statuses (colouredWith 10) (0 ∷ 1 ∷ 2 ∷ 3 ∷ []) gives done (0 ∷ 0 ∷ 0 ∷ 28 ∷ [])
     ∷ statuses (plainWith 1) (0 ∷ 7 ∷ []) gives done (0 ∷ 0 ∷ [])
     ∷ statuses (plainWith 4) (0 ∷ 16383 ∷ []) gives done (0 ∷ 0 ∷ [])
     ∷ statuses (plainWith 6) (0 ∷ 16383 ∷ []) gives done (0 ∷ 0 ∷ [])
@@ -501,20 +505,20 @@ extensionLimits =
     ∷ statuses (copyrightWith 4) (0 ∷ 127 ∷ []) gives done (0 ∷ 0 ∷ [])
     -- flag 0 with owner not 0; owner 0 with number not 0, in any part
     ∷ copyrightIs 0 0 0 0 0 gives done (4 ∷ 0 ∷ 0 ∷ 0 ∷ 0 ∷ [])
-    ∷ copyrightIs 0 1 0 0 0 gives no VALUE
-    ∷ copyrightIs 0 128 0 0 0 gives no VALUE
+    ∷ copyrightIs 0 1 0 0 0 gives refused VALUE-COPYRIGHT-OWNER (bit 5)
+    ∷ copyrightIs 0 128 0 0 0 gives refused VALUE-COPYRIGHT-OWNER (bit 5)
     ∷ copyrightIs 1 0 0 0 0 gives done (4 ∷ 1 ∷ 0 ∷ 0 ∷ 0 ∷ [])
     ∷ copyrightIs 1 1 0 0 0 gives done (4 ∷ 1 ∷ 1 ∷ 0 ∷ 0 ∷ [])
-    ∷ copyrightIs 1 0 0 0 1 gives no VALUE
-    ∷ copyrightIs 1 0 0 1 0 gives no VALUE
-    ∷ copyrightIs 1 0 1 0 0 gives no VALUE
-    ∷ copyrightIs 0 0 0 0 1 gives no VALUE
+    ∷ copyrightIs 1 0 0 0 1 gives refused VALUE-COPYRIGHT-NUMBER (bit 22)
+    ∷ copyrightIs 1 0 0 1 0 gives refused VALUE-COPYRIGHT-NUMBER (bit 22)
+    ∷ copyrightIs 1 0 1 0 0 gives refused VALUE-COPYRIGHT-NUMBER (bit 22)
+    ∷ copyrightIs 0 0 0 0 1 gives refused VALUE-COPYRIGHT-NUMBER (bit 22)
     -- the markers (5, 7, 9), which come before that rule, and the stuffing (11), which comes after
     ∷ statuses (copyrightWith 5) (0 ∷ 1 ∷ []) gives done (7 ∷ 0 ∷ [])
     ∷ statuses (copyrightWith 7) (0 ∷ 1 ∷ []) gives done (7 ∷ 0 ∷ [])
     ∷ statuses (copyrightWith 9) (0 ∷ 1 ∷ []) gives done (7 ∷ 0 ∷ [])
-    ∷ inHead (body 12 (changed 9 0 (copyrightFields 0 1 0 0 0))) gives no MARKER
-    ∷ inHead (body 12 (changed 11 0 (copyrightFields 0 1 0 0 0))) gives no VALUE
+    ∷ inHead (body 12 (changed 9 0 (copyrightFields 0 1 0 0 0))) gives refused MARKER (bit 65)
+    ∷ inHead (body 12 (changed 11 0 (copyrightFields 0 1 0 0 0))) gives refused VALUE-COPYRIGHT-OWNER (bit 5)
     ∷ statuses (copyrightWith 11) (0x80 ∷ 0x40 ∷ 0x81 ∷ 0x00 ∷ []) gives done (0 ∷ 9 ∷ 9 ∷ 9 ∷ [])
     ∷ afterPicture (copyrightBody ++ 0x00 ∷ 0x01 ∷ []) gives no STUFFING
     ∷ afterPicture (take 11 copyrightBody) gives no SHORT
@@ -534,60 +538,60 @@ abbrev pub grammarLimits : List Example
 grammarLimits =
     -- each slice greater than the one before; anew with each picture
     counted (group (picture ++ slice 1 ++ slice 2 ++ sequenceEnd)) gives is 5
-    ∷ counted (group (picture ++ slice 2 ++ slice 2 ++ sequenceEnd)) gives refused VALUE (29 ∷ [])
-    ∷ counted (group (picture ++ slice 2 ++ slice 1 ++ sequenceEnd)) gives refused VALUE (29 ∷ [])
+    ∷ counted (group (picture ++ slice 2 ++ slice 2 ++ sequenceEnd)) gives refused VALUE-SLICE-ORDER (at 29 ++ bit 0)
+    ∷ counted (group (picture ++ slice 2 ++ slice 1 ++ sequenceEnd)) gives refused VALUE-SLICE-ORDER (at 29 ++ bit 0)
     ∷ counted (group (picture ++ slice 2 ++ interPicture ++ slice 1 ++ sequenceEnd)) gives is 6
     -- less than the macroblock rows: 1, 2, and 175 where vertical size is 2800; where it is over, neither is tested
     ∷ counted (sliced 1 16 (slice 0)) gives is 4
-    ∷ counted (sliced 1 16 (slice 1)) gives refused VALUE (24 ∷ [])
+    ∷ counted (sliced 1 16 (slice 1)) gives refused VALUE-SLICE-ROW (at 24 ++ bit 0)
     ∷ counted (sliced 1 17 (slice 1)) gives is 4
-    ∷ counted (sliced 1 17 (slice 2)) gives refused VALUE (24 ∷ [])
+    ∷ counted (sliced 1 17 (slice 2)) gives refused VALUE-SLICE-ROW (at 24 ++ bit 0)
     ∷ counted (sliced 1 2800 (slice 0xAE)) gives is 4
-    ∷ counted (sliced 1 2800 (slice 0xAF)) gives refused VALUE (24 ∷ [])
-    ∷ counted (sliced 1 2800 (slice 2 ++ slice 2)) gives refused VALUE (29 ∷ [])
+    ∷ counted (sliced 1 2800 (slice 0xAF)) gives refused VALUE-SLICE-ROW (at 24 ++ bit 0)
+    ∷ counted (sliced 1 2800 (slice 2 ++ slice 2)) gives refused VALUE-SLICE-ORDER (at 29 ++ bit 0)
     ∷ counted (sliced 1 2801 (slice 0xAF)) gives is 4
     ∷ counted (sliced 1 2801 (slice 2 ++ slice 2 ++ slice 1)) gives is 6
     -- document 02, E4: 32 rows of height 496 where progressive is 0 and 31 where it is 1; 2, and 176 where vertical size is 2800
     ∷ counted (sliced 0 496 (slice 0x1F)) gives is 4
-    ∷ counted (sliced 0 496 (slice 0x20)) gives refused VALUE (24 ∷ [])
+    ∷ counted (sliced 0 496 (slice 0x20)) gives refused VALUE-SLICE-ROW (at 24 ++ bit 0)
     ∷ counted (sliced 1 496 (slice 0x1E)) gives is 4
-    ∷ counted (sliced 1 496 (slice 0x1F)) gives refused VALUE (24 ∷ [])
+    ∷ counted (sliced 1 496 (slice 0x1F)) gives refused VALUE-SLICE-ROW (at 24 ++ bit 0)
     ∷ counted (sliced 0 16 (slice 1)) gives is 4
-    ∷ counted (sliced 0 16 (slice 2)) gives refused VALUE (24 ∷ [])
+    ∷ counted (sliced 0 16 (slice 2)) gives refused VALUE-SLICE-ROW (at 24 ++ bit 0)
     ∷ counted (sliced 0 2800 (slice 0xAF)) gives is 4
-    ∷ counted (sliced 0 2800 (slice 0xAF ++ slice 0xAF)) gives refused VALUE (29 ∷ [])
+    ∷ counted (sliced 0 2800 (slice 0xAF ++ slice 0xAF)) gives refused VALUE-SLICE-ORDER (at 29 ++ bit 0)
     ∷ counted (sliced 0 2801 (slice 0xAF ++ slice 0xAF)) gives is 5
     -- each group by its own header
     ∷ counted (slicedGroup 1 496 (slice 0) (sliced 0 496 (slice 0x1F))) gives is 7
-    ∷ counted (slicedGroup 0 496 (slice 0x1F) (sliced 1 496 (slice 0x1F))) gives refused VALUE (53 ∷ [])
+    ∷ counted (slicedGroup 0 496 (slice 0x1F) (sliced 1 496 (slice 0x1F))) gives refused VALUE-SLICE-ROW (at 53 ++ bit 0)
     -- picture and slice bodies hold a nonzero byte; user data may be empty; an extension body has a byte
-    ∷ counted (group (unit 0xB3 [] ++ slice 0 ++ sequenceEnd)) gives refused SHORT (19 ∷ [])
-    ∷ counted (group (unit 0xB3 (0 ∷ []) ++ slice 0 ++ sequenceEnd)) gives refused SHORT (19 ∷ [])
+    ∷ counted (group (unit 0xB3 [] ++ slice 0 ++ sequenceEnd)) gives refused SHORT (at 19)
+    ∷ counted (group (unit 0xB3 (0 ∷ []) ++ slice 0 ++ sequenceEnd)) gives refused SHORT (at 19)
     ∷ counted (group (unit 0xB3 (0 ∷ 1 ∷ []) ++ slice 0 ++ sequenceEnd)) gives is 4
-    ∷ counted (group (picture ++ unit 0 [] ++ sequenceEnd)) gives refused SHORT (24 ∷ [])
-    ∷ counted (group (picture ++ unit 0 (0 ∷ 0 ∷ []) ++ sequenceEnd)) gives refused SHORT (24 ∷ [])
+    ∷ counted (group (picture ++ unit 0 [] ++ sequenceEnd)) gives refused SHORT (at 24)
+    ∷ counted (group (picture ++ unit 0 (0 ∷ 0 ∷ []) ++ sequenceEnd)) gives refused SHORT (at 24)
     ∷ counted (group (userData [] ++ picture ++ userData [] ++ slice 0 ++ sequenceEnd)) gives is 6
-    ∷ counted (group (extension [] ++ picture ++ slice 0 ++ sequenceEnd)) gives refused SHORT (19 ∷ [])
-    ∷ counted (group (picture ++ extension [] ++ slice 0 ++ sequenceEnd)) gives refused SHORT (24 ∷ [])
+    ∷ counted (group (extension [] ++ picture ++ slice 0 ++ sequenceEnd)) gives refused SHORT (at 19)
+    ∷ counted (group (picture ++ extension [] ++ slice 0 ++ sequenceEnd)) gives refused SHORT (at 24)
     -- SHORT before VALUE in a slice
-    ∷ counted (group (picture ++ unit 0x44 [] ++ sequenceEnd)) gives refused SHORT (24 ∷ [])
+    ∷ counted (group (picture ++ unit 0x44 [] ++ sequenceEnd)) gives refused SHORT (at 24)
     -- one display extension in a group's head; a second is TWICE, after SHORT and before its fields
     ∷ counted (group (extension plainBody ++ picture ++ slice 0 ++ group (extension plainBody ++ picture ++ slice 0 ++ sequenceEnd))) gives is 9
-    ∷ counted (group (extension plainBody ++ extension colouredBody)) gives refused TWICE (29 ∷ [])
-    ∷ counted (group (extension plainBody ++ extension (take 5 plainBody))) gives refused SHORT (29 ∷ [])
-    ∷ counted (group (extension plainBody ++ extension (body 6 (changed 7 3 plainFields)))) gives refused TWICE (29 ∷ [])
+    ∷ counted (group (extension plainBody ++ extension colouredBody)) gives refused TWICE (at 29)
+    ∷ counted (group (extension plainBody ++ extension (take 5 plainBody))) gives refused SHORT (at 29)
+    ∷ counted (group (extension plainBody ++ extension (body 6 (changed 7 3 plainFields)))) gives refused TWICE (at 29)
     ∷ counted (group (extension plainBody ++ extension copyrightBody ++ extension copyrightBody ++ picture ++ slice 0 ++ sequenceEnd)) gives is 7
     -- endings
     ∷ counted (group (picture ++ slice 0 ++ editCode)) gives is 4
     ∷ counted (group (picture ++ slice 0 ++ sequenceEnd ++ editCode)) gives is 5
-    ∷ counted (group (picture ++ slice 0 ++ editCode ++ sequenceEnd)) gives refused OUT-OF-PLACE (33 ∷ [])
-    ∷ counted (group (picture ++ slice 0 ++ sequenceEnd ++ sequenceEnd)) gives refused OUT-OF-PLACE (33 ∷ [])
-    ∷ counted (group (picture ++ slice 0 ++ sequenceEnd ++ editCode ++ editCode)) gives refused OUT-OF-PLACE (37 ∷ [])
-    ∷ counted (group (picture ++ slice 0 ++ sequenceEnd ++ group (picture ++ slice 0 ++ sequenceEnd))) gives refused OUT-OF-PLACE (33 ∷ [])
-    ∷ counted (group (picture ++ slice 0 ++ unit 0xB1 (0 ∷ []))) gives refused STUFFING (29 ∷ [])
-    ∷ counted (group (picture ++ slice 0 ++ unit 0xB7 (0x80 ∷ []))) gives refused STUFFING (29 ∷ [])
-    ∷ counted (group (picture ++ slice 0)) gives refused UNENDED (29 ∷ [])
-    ∷ counted (group []) gives refused UNENDED (19 ∷ [])
+    ∷ counted (group (picture ++ slice 0 ++ editCode ++ sequenceEnd)) gives refused OUT-OF-PLACE (at 33)
+    ∷ counted (group (picture ++ slice 0 ++ sequenceEnd ++ sequenceEnd)) gives refused OUT-OF-PLACE (at 33)
+    ∷ counted (group (picture ++ slice 0 ++ sequenceEnd ++ editCode ++ editCode)) gives refused OUT-OF-PLACE (at 37)
+    ∷ counted (group (picture ++ slice 0 ++ sequenceEnd ++ group (picture ++ slice 0 ++ sequenceEnd))) gives refused OUT-OF-PLACE (at 33)
+    ∷ counted (group (picture ++ slice 0 ++ unit 0xB1 (0 ∷ []))) gives refused STUFFING (at 29)
+    ∷ counted (group (picture ++ slice 0 ++ unit 0xB7 (0x80 ∷ []))) gives refused STUFFING (at 29)
+    ∷ counted (group (picture ++ slice 0)) gives refused UNENDED (at 29)
+    ∷ counted (group []) gives refused UNENDED (at 19)
     -- what may stand where: at the stream's start, in a group's head, after a picture header, after a slice, after B1 and after B7.
     -- The body 80 is SHORT for B0 and STUFFING for B1 and B7; what may stand otherwise leaves the stream UNENDED
     ∷ nextUnit [] gives done (5 ∷ 6 ∷ 5 ∷ 5 ∷ 5 ∷ 4 ∷ 5 ∷ 5 ∷ 5 ∷ 4 ∷ [])
@@ -621,7 +625,53 @@ grammarLimits =
     ∷ groupIs (twoGroups sequenceEnd) 0 gives done (0x48 ∷ 0x40 ∷ 0 ∷ 1920 ∷ 1080 ∷ 1 ∷ 1 ∷ 3 ∷ 3 ∷ 20000 ∷ 0 ∷ 64 ∷ 2 ∷ 6 ∷ 0 ∷ 9 ∷ 4 ∷ 5 ∷ 1280 ∷ 704 ∷ 1 ∷ [])
     ∷ groupIs (twoGroups sequenceEnd) 1 gives done (72 ∷ 65 ∷ 1 ∷ 720 ∷ 576 ∷ 2 ∷ 1 ∷ 3 ∷ 4 ∷ 1935008 ∷ 0 ∷ 200000 ∷ [])
     ∷ groupIs (twoGroups sequenceEnd) 2 gives no NO-ROW
-    ∷ groupIs (twoGroups []) 2 gives refused UNENDED (86 ∷ [])
+    ∷ groupIs (twoGroups []) 2 gives refused UNENDED (at 86)
+    ∷ []
+
+-- ── document 02, E1: a number for each field, and the bit place inside the body ──
+
+-- a good group and a picture with a slice, 29 bytes, and what follows them
+abbrev pub afterGroup : List ℕ → List ℕ
+afterGroup rest = group (picture ++ slice 0 ++ rest)
+
+abbrev pub bitLimits : List Example
+bitLimits =
+    done (VALUE-WIDTH ∷ VALUE-HEIGHT ∷ VALUE-CHROMA ∷ VALUE-PRECISION ∷ VALUE-ASPECT ∷ VALUE-RATE ∷ []) gives done (20 ∷ 21 ∷ 22 ∷ 23 ∷ 24 ∷ 25 ∷ [])
+    ∷ done (VALUE-TRANSFER ∷ VALUE-MATRIX ∷ VALUE-STEREO ∷ VALUE-COPYRIGHT-OWNER ∷ VALUE-COPYRIGHT-NUMBER ∷ []) gives done (26 ∷ 27 ∷ 28 ∷ 29 ∷ 30 ∷ [])
+    ∷ done (VALUE-SLICE-ORDER ∷ VALUE-SLICE-ROW ∷ []) gives done (31 ∷ 32 ∷ [])
+    -- the fields of a sequence header: sizes, chroma, precision, aspect, rate, and its markers
+    ∷ refusal (headerWith 3 0) gives refused VALUE-WIDTH (bit 17)
+    ∷ refusal (headerWith 4 0) gives refused VALUE-HEIGHT (bit 31)
+    ∷ refusal (headerWith 5 3) gives refused VALUE-CHROMA (bit 45)
+    ∷ refusal (headerWith 6 2) gives refused VALUE-PRECISION (bit 47)
+    ∷ refusal (headerWith 7 5) gives refused VALUE-ASPECT (bit 50)
+    ∷ refusal (headerWith 8 9) gives refused VALUE-RATE (bit 54)
+    ∷ refusal (headerWith 10 0) gives refused MARKER (bit 76)
+    ∷ refusal (headerWith 13 0) gives refused MARKER (bit 90)
+    -- of a display extension, without colour and with it
+    ∷ refusal (plainWith 5 0) gives refused MARKER (bit 23)
+    ∷ refusal (plainWith 7 3) gives refused VALUE-STEREO (bit 38)
+    ∷ refusal (colouredWith 5 3) gives refused VALUE-TRANSFER (bit 17)
+    ∷ refusal (colouredWith 6 8) gives refused VALUE-MATRIX (bit 25)
+    ∷ refusal (colouredWith 8 0) gives refused MARKER (bit 47)
+    ∷ refusal (colouredWith 10 3) gives refused VALUE-STEREO (bit 62)
+    -- of a copyright extension
+    ∷ refusal (copyrightWith 5 0) gives refused MARKER (bit 21)
+    ∷ refusal (copyrightWith 7 0) gives refused MARKER (bit 42)
+    ∷ refusal (copyrightWith 9 0) gives refused MARKER (bit 65)
+    ∷ refusal (copyrightWith 1 0) gives refused VALUE-COPYRIGHT-OWNER (bit 5)
+    ∷ refusal (copyrightWith 2 0) gives refused VALUE-COPYRIGHT-NUMBER (bit 22)
+    -- in a stream beside the offset, which is the unit's: in the first group and in a later one, in a group's head and after a picture
+    ∷ counted (unit 0xB0 (body 15 (changed 8 0 leastHeader))) gives refused VALUE-RATE (at 0 ++ bit 54)
+    ∷ counted (afterGroup (unit 0xB0 (body 15 (changed 13 0 leastHeader)))) gives refused MARKER (at 29 ++ bit 90)
+    ∷ counted (group (extension (body 6 (changed 7 3 plainFields)))) gives refused VALUE-STEREO (at 19 ++ bit 38)
+    ∷ counted (afterGroup (group (extension (body 9 (changed 10 3 colouredFields))))) gives refused VALUE-STEREO (at 48 ++ bit 62)
+    ∷ counted (group (picture ++ extension (body 12 (copyrightFields 1 0 0 0 1)))) gives refused VALUE-COPYRIGHT-NUMBER (at 24 ++ bit 22)
+    ∷ counted (afterGroup (group (picture ++ slice 2 ++ slice 1))) gives refused VALUE-SLICE-ORDER (at 58 ++ bit 0)
+    ∷ counted (afterGroup (group (picture ++ slice 0x44))) gives refused VALUE-SLICE-ROW (at 53 ++ bit 0)
+    -- the group question as filing, whichever group is asked for
+    ∷ groupIs (afterGroup (group (extension (body 9 (changed 6 0 colouredFields))))) 0 gives refused VALUE-MATRIX (at 48 ++ bit 25)
+    ∷ groupIs (afterGroup (group (picture ++ slice 0x44))) 5 gives refused VALUE-SLICE-ROW (at 53 ++ bit 0)
     ∷ []
 
 -- ── "Escape removal" and Exp-Golomb numbers ──
@@ -793,4 +843,4 @@ slips =
 -- ── the list ──
 
 abbrev pub limits : List Example
-limits = numberLimits ++ unitLimits ++ headerLimits ++ extensionLimits ++ grammarLimits ++ payloadLimits ++ binLimits ++ slips
+limits = numberLimits ++ unitLimits ++ headerLimits ++ extensionLimits ++ grammarLimits ++ bitLimits ++ payloadLimits ++ binLimits ++ slips

@@ -1,9 +1,10 @@
-// Document 01's header H and examples 1 to 7, asked of the Rattle functions: a line each. A refusal is its number.
-// tests/examples_oracle.py has the answers as document 01 gives them.
+// Document 01's header H and examples 1 to 7, asked of the Rattle functions: a line each. A refusal is its number, its offset
+// and its bit, - where it has none. tests/examples_oracle.py has the answers as the papers give them.
 use bodies::HeaderAnswer;
 use bodies::SequenceHeader;
 use filing::FilingAnswer;
-use filing::Reason;
+use grammar::Reason;
+use layout::Fault;
 use libc::STDOUT_FILENO;
 
 // ── what is written ──
@@ -63,21 +64,25 @@ fn example_header() {
 
 // ── examples 1 to 7: streams ──
 
-fn reason(why: Reason) -> u64 {
+fn no_bit() {
+    say(b" -");
+}
+
+fn fault_bit(f: Fault) {
+    match f {
+        Fault::Short => no_bit(),
+        Fault::Marker(at) => size(at),
+        Fault::Value(_, at) => size(at),
+        Fault::Stuffing => no_bit(),
+    }
+}
+
+fn bit(why: Reason) {
     match why {
-        Reason::NoCode => 1,
-        Reason::Cut => 2,
-        Reason::Overlap => 3,
-        Reason::Unknown => 4,
-        Reason::OutOfPlace => 5,
-        Reason::Short => 6,
-        Reason::Marker => 7,
-        Reason::Value => 8,
-        Reason::Stuffing => 9,
-        Reason::Twice => 10,
-        Reason::Unended => 11,
-        Reason::Full => 12,
-        Reason::TooLong => 13,
+        Reason::Body(f) => fault_bit(f),
+        Reason::SliceOrder => number(0),
+        Reason::SliceRow => number(0),
+        _ => no_bit(),
     }
 }
 
@@ -89,8 +94,9 @@ fn answer(a: FilingAnswer) {
         }
         FilingAnswer::Refused(refusal) => {
             let why = refusal.reason;
-            number(reason(why));
+            small(grammar::reason_number(why));
             size(refusal.offset);
+            bit(why);
         }
     }
 }

@@ -1,14 +1,13 @@
-// What a Rattle caller can ask of one unit in a state, and of a body with the field and bit that it is refused for, and the C boundary
-// cannot: a line each, the question and its answer. tests/units_oracle.py reads the questions from this file, works the answers out by
+// What a Rattle caller can ask of one unit in a state, and of a body's number before its fields, and the C boundary cannot: a line each,
+// the question and its answer. A refusal is its number and its bit, - where it has none. tests/units_oracle.py reads the questions from this file, works the answers out by
 // itself, and says what the numbers are.
-use bodies::ExtensionReading;
-use bodies::HeaderReading;
+use bodies::ExtensionAnswer;
+use bodies::HeaderAnswer;
 use bodies::Scope;
 use grammar::Reason;
 use grammar::SliceRule;
 use grammar::State;
 use layout::Fault;
-use layout::Name;
 use libc::STDOUT_FILENO;
 use units::UnitAnswer;
 ghost use mathlib.Core.Path.{_≡_};
@@ -57,54 +56,37 @@ fn hex(s: &[u8]) {
 
 // ── what is wrong ──
 
-// A field by its place in its layout, counted from 1.
-fn field(name: Name) -> u64 {
-    match name {
-        Name::HorizontalSize => 4,
-        Name::VerticalSize => 5,
-        Name::ChromaFormat => 6,
-        Name::Precision => 7,
-        Name::Aspect => 8,
-        Name::FrameRate => 9,
-        Name::Transfer => 6,
-        Name::Matrix => 7,
-        Name::Stereo => 11,
-        Name::Owner => 3,
-        Name::CopyrightNumber => 12,
-        _ => 0,
-    }
+// The bit, or that there is none.
+fn bit(place: usize) {
+    size(place);
 }
 
-// A number of document 01, with what a Rattle caller is told besides.
-struct Told(u64, u64, usize);
-
-fn tell(t: Told) {
-    number(t.0);
-    number(t.1);
-    size(t.2);
+fn no_bit() {
+    say(b" -");
 }
 
-fn fault(f: Fault) -> Told {
+fn fault_bit(f: Fault) {
     match f {
-        Fault::Short => Told(6, 0, 0),
-        Fault::Marker(at) => Told(7, 0, at),
-        Fault::Value(name, at) => Told(8, field(name), at),
-        Fault::Stuffing => Told(9, 0, 0),
+        Fault::Short => no_bit(),
+        Fault::Marker(at) => bit(at),
+        Fault::Value(_, at) => bit(at),
+        Fault::Stuffing => no_bit(),
     }
 }
 
-// What a unit can be refused for. SliceOrder and SliceRow are VALUE, and told apart by 1 and 2.
-fn reason(why: Reason) -> Told {
+// A number and a bit.
+fn fault(f: Fault) {
+    small(bodies::fault_number(f));
+    fault_bit(f);
+}
+
+fn reason(why: Reason) {
+    small(grammar::reason_number(why));
     match why {
-        Reason::Cut => Told(2, 0, 0),
-        Reason::Overlap => Told(3, 0, 0),
-        Reason::Unknown => Told(4, 0, 0),
-        Reason::OutOfPlace => Told(5, 0, 0),
-        Reason::Body(f) => fault(f),
-        Reason::SliceOrder => Told(8, 1, 0),
-        Reason::SliceRow => Told(8, 2, 0),
-        Reason::Twice => Told(10, 0, 0),
-        _ => Told(0, 0, 0),
+        Reason::Body(f) => fault_bit(f),
+        Reason::SliceOrder => bit(0),
+        Reason::SliceRow => bit(0),
+        _ => no_bit(),
     }
 }
 
@@ -124,7 +106,8 @@ fn state(k: u32) -> State {
         4 => State::Slices(rule(true, 68), 6),
         5 => State::Slices(rule(false, 176), 68),
         6 => State::Ended,
-        _ => State::Closed,
+        7 => State::Closed,
+        _ => State::Slices(rule(true, 5), 6),
     }
 }
 
@@ -154,7 +137,7 @@ fn next(x: State, end: usize, length: usize) {
 
 fn refused(why: Reason) {
     none();
-    tell(reason(why));
+    reason(why);
 }
 
 // Where the unit ends, its row's length and the state after it; or why it is refused, after "none".
@@ -231,20 +214,24 @@ fn base(k: u32) -> [u8; 16]
     }
 }
 
-fn header(r: HeaderReading) -> Told {
-    match r {
-        HeaderReading::Header(_) => Told(0, 0, 0),
-        HeaderReading::Faulty(f) => fault(f),
+fn header(a: HeaderAnswer) {
+    match a {
+        HeaderAnswer::Header(_) => say(b" header"),
+        HeaderAnswer::Refused(f) => fault(f),
     }
 }
 
-// 0, with 2 for a display extension and 4 for a copyright extension, or the number of an opaque one after a 1.
-fn extension(r: ExtensionReading) -> Told {
-    match r {
-        ExtensionReading::Display(_) => Told(0, 2, 0),
-        ExtensionReading::Copyright(_) => Told(0, 4, 0),
-        ExtensionReading::Opaque(n) => Told(0, 1, n as usize),
-        ExtensionReading::Faulty(f) => fault(f),
+fn opaque(n: u32) {
+    say(b" opaque");
+    small(n);
+}
+
+fn extension(a: ExtensionAnswer) {
+    match a {
+        ExtensionAnswer::Display(_) => say(b" display"),
+        ExtensionAnswer::Copyright(_) => say(b" copyright"),
+        ExtensionAnswer::Opaque(n) => opaque(n),
+        ExtensionAnswer::Refused(f) => fault(f),
     }
 }
 
@@ -254,8 +241,8 @@ fn extension_in(body: &[u8]) {
     flag(bodies::display_short(body));
     flag(bodies::is_opaque(body, Scope::Head));
     flag(bodies::is_opaque(body, Scope::Picture));
-    tell(extension(bodies::read_extension(body, Scope::Head)));
-    tell(extension(bodies::read_extension(body, Scope::Picture)));
+    extension(bodies::extension(body, Scope::Head));
+    extension(bodies::extension(body, Scope::Picture));
 }
 
 fn body_in(k: u32, body: &[u8]) {
@@ -263,7 +250,7 @@ fn body_in(k: u32, body: &[u8]) {
     small(k);
     hex(body);
     if k == 0 {
-        tell(header(bodies::read_header(body)));
+        header(bodies::sequence_header(body));
     } else {
         extension_in(body);
     }
@@ -337,6 +324,7 @@ fn main() {
     units_in(5);
     units_in(6);
     units_in(7);
+    units_in(8);
     headers();
     displays();
     copyrights();
