@@ -1,6 +1,6 @@
 //! Single bits, and the two ways the document reads them: fields of a body, and bits of a payload.
 
-use crate::refusals::{MARKER, PAYLOAD_LIMIT, PAYLOAD_OUT, SHORT, STUFFING, TOO_LONG};
+use crate::refusals::{with_bit, without_bit, Fault, MARKER, PAYLOAD_LIMIT, PAYLOAD_OUT, SHORT, STUFFING, TOO_LONG};
 
 /// Bit `i` of the bytes, most significant first.
 pub(crate) fn bit(bytes: &[u8], i: u64) -> Option<bool> {
@@ -20,32 +20,45 @@ impl<'a> Fields<'a> {
         Fields { body, place: 0 }
     }
 
+    /// The bit that the next field begins at.
+    pub(crate) fn place(&self) -> u64 {
+        self.place
+    }
+
     /// The next `width` bits as a number, at most 32 of them.
-    pub(crate) fn number(&mut self, width: u32) -> Result<u32, u32> {
+    pub(crate) fn number(&mut self, width: u32) -> Result<u32, Fault> {
         let mut value = 0;
         for _ in 0..width {
-            let one = bit(self.body, self.place).ok_or(SHORT)?;
+            let one = bit(self.body, self.place).ok_or(without_bit(SHORT))?;
             value = 2 * value + u32::from(one);
             self.place += 1;
         }
         Ok(value)
     }
 
-    pub(crate) fn marker(&mut self) -> Result<(), u32> {
-        match self.number(1)? {
-            1 => Ok(()),
-            _ => Err(MARKER),
+    /// The next `width` bits as a number; where it is not allowed, the refusal `refused` at the field's first bit.
+    pub(crate) fn judged(&mut self, width: u32, refused: u32, allowed: impl Fn(u32) -> bool) -> Result<u32, Fault> {
+        let first = self.place;
+        let value = self.number(width)?;
+        if allowed(value) {
+            Ok(value)
+        } else {
+            Err(with_bit(refused, first))
         }
     }
 
+    pub(crate) fn marker(&mut self) -> Result<(), Fault> {
+        self.judged(1, MARKER, |one| one == 1).map(|_| ())
+    }
+
     /// One 1 bit, zeros to the byte's end, then only zero bytes.
-    pub(crate) fn stuffing(&mut self) -> Result<(), u32> {
+    pub(crate) fn stuffing(&mut self) -> Result<(), Fault> {
         if self.number(1)? != 1 {
-            return Err(STUFFING);
+            return Err(without_bit(STUFFING));
         }
         while let Some(one) = bit(self.body, self.place) {
             if one {
-                return Err(STUFFING);
+                return Err(without_bit(STUFFING));
             }
             self.place += 1;
         }

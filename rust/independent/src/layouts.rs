@@ -1,7 +1,10 @@
 //! Section "Layouts": sequence header, display extension and copyright extension.
 
 use crate::bits::{bit, Fields};
-use crate::refusals::{SHORT, VALUE};
+use crate::refusals::{
+    with_bit, without_bit, Fault, ASPECT, CHROMA, COPYRIGHT_NUMBER, COPYRIGHT_OWNER, HEIGHT, MATRIX, PRECISION, RATE, SHORT,
+    STEREO, TRANSFER, WIDTH,
+};
 
 #[derive(Clone, Copy, Debug, PartialEq, Eq)]
 pub struct Header {
@@ -52,41 +55,21 @@ const COPYRIGHT_BYTES: usize = 12;
 /// The colour given bit follows number 4, format 3 and range 1.
 const COLOUR_GIVEN_BIT: u64 = 8;
 
-/// VALUE unless the field is allowed.
-fn allowed(value: u32, fine: bool) -> Result<u32, u32> {
-    if fine {
-        Ok(value)
-    } else {
-        Err(VALUE)
-    }
-}
-
-fn size(fields: &mut Fields) -> Result<u32, u32> {
-    let value = fields.number(14)?;
-    allowed(value, value != 0)
-}
-
-/// A number of `width` bits that must lie in `low` to `high`.
-fn between(fields: &mut Fields, width: u32, low: u32, high: u32) -> Result<u32, u32> {
-    let value = fields.number(width)?;
-    allowed(value, low <= value && value <= high)
-}
-
 /// A sequence header's record, or the refusal of its body.
-pub fn header(body: &[u8]) -> Result<Header, u32> {
+pub fn header(body: &[u8]) -> Result<Header, Fault> {
     if body.len() < HEADER_BYTES {
-        return Err(SHORT);
+        return Err(without_bit(SHORT));
     }
     let mut fields = Fields::new(body);
     let profile = fields.number(8)?;
     let level = fields.number(8)?;
     let progressive = fields.number(1)?;
-    let horizontal = size(&mut fields)?;
-    let vertical = size(&mut fields)?;
-    let chroma = between(&mut fields, 2, 1, 2)?;
-    let precision = between(&mut fields, 3, 1, 1)?;
-    let aspect = between(&mut fields, 4, 1, 4)?;
-    let rate = between(&mut fields, 4, 1, 8)?;
+    let horizontal = fields.judged(14, WIDTH, |size| size != 0)?;
+    let vertical = fields.judged(14, HEIGHT, |size| size != 0)?;
+    let chroma = fields.judged(2, CHROMA, |chroma| chroma == 1 || chroma == 2)?;
+    let precision = fields.judged(3, PRECISION, |precision| precision == 1)?;
+    let aspect = fields.judged(4, ASPECT, |aspect| (1..=4).contains(&aspect))?;
+    let rate = fields.judged(4, RATE, |rate| (1..=8).contains(&rate))?;
     let low = fields.number(18)?;
     fields.marker()?;
     let high = fields.number(12)?;
@@ -113,8 +96,8 @@ pub fn header(body: &[u8]) -> Result<Header, u32> {
 }
 
 /// The extension's number, or SHORT for an empty body.
-fn extension_number(body: &[u8]) -> Result<u32, u32> {
-    body.first().map(|byte| u32::from(byte >> 4)).ok_or(SHORT)
+fn extension_number(body: &[u8]) -> Result<u32, Fault> {
+    body.first().map(|byte| u32::from(byte >> 4)).ok_or(without_bit(SHORT))
 }
 
 /// Number 2 is the display extension only in a group's head.
@@ -123,7 +106,7 @@ pub(crate) fn is_display(body: &[u8], in_head: bool) -> bool {
 }
 
 /// SHORT unless the extension body has the bytes its layout asks for.
-pub(crate) fn extension_length(body: &[u8], in_head: bool) -> Result<(), u32> {
+pub(crate) fn extension_length(body: &[u8], in_head: bool) -> Result<(), Fault> {
     let number = extension_number(body)?;
     let colour = bit(body, COLOUR_GIVEN_BIT) == Some(true);
     let wanted = match number {
@@ -133,22 +116,20 @@ pub(crate) fn extension_length(body: &[u8], in_head: bool) -> Result<(), u32> {
         _ => 1,
     };
     if body.len() < wanted {
-        return Err(SHORT);
+        return Err(without_bit(SHORT));
     }
     Ok(())
 }
 
 /// Primaries, transfer and matrix; primaries are not judged.
-fn colour(fields: &mut Fields) -> Result<[u32; 3], u32> {
+fn colour(fields: &mut Fields) -> Result<[u32; 3], Fault> {
     let primaries = fields.number(8)?;
-    let transfer = fields.number(8)?;
-    allowed(transfer, transfer != 0 && transfer != 3 && transfer <= 10)?;
-    let matrix = fields.number(8)?;
-    allowed(matrix, matrix != 0 && matrix != 3 && matrix <= 7)?;
+    let transfer = fields.judged(8, TRANSFER, |transfer| transfer != 0 && transfer != 3 && transfer <= 10)?;
+    let matrix = fields.judged(8, MATRIX, |matrix| matrix != 0 && matrix != 3 && matrix <= 7)?;
     Ok([primaries, transfer, matrix])
 }
 
-fn display(body: &[u8]) -> Result<Display, u32> {
+fn display(body: &[u8]) -> Result<Display, Fault> {
     let mut fields = Fields::new(body);
     fields.number(4)?; // the extension's number
     let format = fields.number(3)?;
@@ -160,7 +141,7 @@ fn display(body: &[u8]) -> Result<Display, u32> {
     let width = fields.number(14)?;
     fields.marker()?;
     let height = fields.number(14)?;
-    let stereo = between(&mut fields, 2, 0, 2)?;
+    let stereo = fields.judged(2, STEREO, |stereo| stereo != 3)?;
     fields.stuffing()?;
     Ok(Display {
         format,
@@ -172,14 +153,16 @@ fn display(body: &[u8]) -> Result<Display, u32> {
     })
 }
 
-fn copyright(body: &[u8]) -> Result<Copyright, u32> {
+fn copyright(body: &[u8]) -> Result<Copyright, Fault> {
     let mut fields = Fields::new(body);
     fields.number(4)?; // the extension's number
     let flag = fields.number(1)?;
+    let owner_bit = fields.place();
     let owner = fields.number(8)?;
     let original = fields.number(1)?;
     fields.number(7)?; // reserved: anything
     fields.marker()?;
+    let number_bit = fields.place(); // that of part one
     let one = u64::from(fields.number(20)?);
     fields.marker()?;
     let two = u64::from(fields.number(22)?);
@@ -187,8 +170,11 @@ fn copyright(body: &[u8]) -> Result<Copyright, u32> {
     let three = u64::from(fields.number(22)?);
     let number = (one << 44) + (two << 22) + three;
     // The document rules on these three only after the last field.
-    if (flag == 0 && owner != 0) || (owner == 0 && number != 0) {
-        return Err(VALUE);
+    if flag == 0 && owner != 0 {
+        return Err(with_bit(COPYRIGHT_OWNER, owner_bit));
+    }
+    if owner == 0 && number != 0 {
+        return Err(with_bit(COPYRIGHT_NUMBER, number_bit));
     }
     fields.stuffing()?;
     Ok(Copyright {
@@ -200,7 +186,7 @@ fn copyright(body: &[u8]) -> Result<Copyright, u32> {
 }
 
 /// An extension's record, or the refusal of its body.
-pub fn extension(body: &[u8], in_head: bool) -> Result<Extension, u32> {
+pub fn extension(body: &[u8], in_head: bool) -> Result<Extension, Fault> {
     extension_length(body, in_head)?;
     match extension_number(body)? {
         2 if in_head => display(body).map(Extension::Display),

@@ -1,6 +1,6 @@
 //! Section "Units": start codes, unit kinds, and cutting a unit out of a stream.
 
-use crate::refusals::{CUT, OVERLAP, UNKNOWN};
+use crate::refusals::{without_bit, Fault, CUT, OVERLAP, UNKNOWN};
 
 pub(crate) const START_CODE: [u8; 3] = [0, 0, 1];
 
@@ -71,14 +71,14 @@ pub(crate) struct Unit<'a> {
 }
 
 /// The unit whose start code stands at `offset`, or refusal 2, 3 or 4 in that order.
-pub(crate) fn unit_at(stream: &[u8], offset: usize) -> Result<Unit<'_>, u32> {
+pub(crate) fn unit_at(stream: &[u8], offset: usize) -> Result<Unit<'_>, Fault> {
     let code_place = offset + START_CODE.len();
-    let code = *stream.get(code_place).ok_or(CUT)?;
+    let code = *stream.get(code_place).ok_or(without_bit(CUT))?;
     let end = next_from(stream, code_place);
     if end == code_place {
-        return Err(OVERLAP);
+        return Err(without_bit(OVERLAP));
     }
-    let kind = kind_of(code).ok_or(UNKNOWN)?;
+    let kind = kind_of(code).ok_or(without_bit(UNKNOWN))?;
     Ok(Unit {
         code,
         kind,

@@ -31,12 +31,32 @@ fn write(units: &[(u8, &[u8])]) -> Vec<u8> {
     bytes
 }
 
+/// A refusal that carries no bit.
+fn refused<T>(number: u32, place: u64) -> Result<T, Refused> {
+    Err(Refused {
+        number,
+        place,
+        bit: None,
+    })
+}
+
+/// A body's refusal that carries no bit.
+fn plain<T>(number: u32) -> Result<T, Fault> {
+    Err(Fault { number, bit: None })
+}
+
+/// A body's refusal at a bit.
+fn at_bit<T>(number: u32, bit: u64) -> Result<T, Fault> {
+    Err(Fault { number, bit: Some(bit) })
+}
+
 /// Number and unit index of a stream's refusal; (0, units) when filed.
 fn outcome(units: &[(u8, &[u8])]) -> (u32, usize) {
     let mut rows = [0; 300];
     match file(&write(units), &mut rows) {
         Ok(count) => (0, count as usize),
         Err(refused) => {
+            assert_eq!(refused.bit.is_some(), matches!(refused.number, 7 | 20..=32), "{:?}", refused);
             let before = (0..=units.len()).find(|&n| write(&units[..n]).len() as u64 == refused.place);
             (refused.number, before.unwrap())
         }
@@ -120,16 +140,13 @@ fn codes() {
 #[test]
 fn overlap() {
     let mut rows = [0; 30];
-    assert_eq!(file(&[0, 0, 1, 0, 0, 1], &mut rows), Err(Refused { number: 3, place: 0 }));
-    assert_eq!(file(&[0, 0, 1, 0, 0], &mut rows), Err(Refused { number: 5, place: 0 }));
-    assert_eq!(file(&[0, 0, 1], &mut rows), Err(Refused { number: 2, place: 0 }));
+    assert_eq!(file(&[0, 0, 1, 0, 0, 1], &mut rows), refused(3, 0));
+    assert_eq!(file(&[0, 0, 1, 0, 0], &mut rows), refused(5, 0));
+    assert_eq!(file(&[0, 0, 1], &mut rows), refused(2, 0));
     // 00 00 00 01 after a code byte 00 is a body of nothing, or of zeros, and no overlap.
-    assert_eq!(
-        file(&[0, 0, 1, 0, 0, 0, 1, 0xB1], &mut rows),
-        Err(Refused { number: 5, place: 0 })
-    );
+    assert_eq!(file(&[0, 0, 1, 0, 0, 0, 1, 0xB1], &mut rows), refused(5, 0));
     let stream = [&write(&[(0xB0, &H), PICTURE])[..], &[0, 0, 1, 0, 0, 1, 0xB1]].concat();
-    assert_eq!(file(&stream, &mut rows), Err(Refused { number: 3, place: 24 }));
+    assert_eq!(file(&stream, &mut rows), refused(3, 24));
 }
 
 #[test]
@@ -151,8 +168,8 @@ fn slices() {
         let body = header_with(progressive, height);
         let head: (u8, &[u8]) = (0xB0, &body);
         assert_eq!(outcome(&[head, PICTURE, (rows - 1, good), END]), (0, 4));
-        assert_eq!(outcome(&[head, PICTURE, (rows, good), END]), (8, 2));
-        assert_eq!(outcome(&[head, PICTURE, SLICE, SLICE, END]), (8, 3));
+        assert_eq!(outcome(&[head, PICTURE, (rows, good), END]), (32, 2));
+        assert_eq!(outcome(&[head, PICTURE, SLICE, SLICE, END]), (31, 3));
         assert_eq!(outcome(&[head, PICTURE, SLICE, (rows, &[0]), END]), (6, 3));
         assert_eq!(outcome(&[head, PICTURE, SLICE, b, SLICE, END]), (0, 6));
     }
@@ -161,7 +178,7 @@ fn slices() {
     assert_eq!(outcome(&units), (0, 6));
     let small = header_with(1, 16);
     let two: [(u8, &[u8]); 7] = [(0xB0, &tall), PICTURE, (9, good), (0xB0, &small), PICTURE, (1, good), END];
-    assert_eq!(outcome(&two), (8, 5));
+    assert_eq!(outcome(&two), (32, 5));
 }
 
 /// At 2800 lines all slice codes are in the rows of an interlaced recording.
@@ -172,10 +189,10 @@ fn slices_of_2800_lines() {
     assert_eq!(outcome(&[(0xB0, &interlaced), PICTURE, (0xAF, good), END]), (0, 4));
     assert_eq!(
         outcome(&[(0xB0, &interlaced), PICTURE, (0xAF, good), (0xAF, good), END]),
-        (8, 3)
+        (31, 3)
     );
     assert_eq!(outcome(&[(0xB0, &progressive), PICTURE, (0xAE, good), END]), (0, 4));
-    assert_eq!(outcome(&[(0xB0, &progressive), PICTURE, (0xAF, good), END]), (8, 2));
+    assert_eq!(outcome(&[(0xB0, &progressive), PICTURE, (0xAF, good), END]), (32, 2));
 }
 
 /// Each group's rows are by its own header.
@@ -189,7 +206,10 @@ fn slices_of_groups_that_differ() {
         outcome(&[progressive, PICTURE, SLICE, interlaced, PICTURE, last, END]),
         (0, 7)
     );
-    assert_eq!(outcome(&[interlaced, PICTURE, last, progressive, PICTURE, last, END]), (8, 5));
+    assert_eq!(
+        outcome(&[interlaced, PICTURE, last, progressive, PICTURE, last, END]),
+        (32, 5)
+    );
     assert_eq!(
         outcome(&[interlaced, PICTURE, last, progressive, PICTURE, SLICE, END]),
         (0, 7)
@@ -244,14 +264,14 @@ fn header_refusals() {
         body[place] = value;
         header(&body)
     };
-    assert_eq!(header(&H[..14]), Err(6));
-    assert_eq!(spoilt(9, 0x00), Err(7)); // first marker
-    assert_eq!(spoilt(11, 0x00), Err(7)); // second marker
-    assert_eq!(spoilt(14, 0xC0), Err(9));
-    assert_eq!(spoilt(6, 0x0C), Err(8)); // precision and aspect
+    assert_eq!(header(&H[..14]), plain(6));
+    assert_eq!(spoilt(9, 0x00), at_bit(7, 76)); // first marker
+    assert_eq!(spoilt(11, 0x00), at_bit(7, 90)); // second marker
+    assert_eq!(spoilt(14, 0xC0), plain(9));
+    assert_eq!(spoilt(6, 0x0C), at_bit(23, 47));
     assert_eq!(header(&[&H[..], &[0, 0, 0]].concat()), header(&H));
-    assert_eq!(header(&[&H[..], &[0, 4, 0]].concat()), Err(9));
-    assert_eq!(header(&[0; 15]), Err(8));
+    assert_eq!(header(&[&H[..], &[0, 4, 0]].concat()), plain(9));
+    assert_eq!(header(&[0; 15]), at_bit(20, 17));
     assert_eq!(spoilt(13, 0x07), header(&H)); // reserved bits
 }
 
@@ -259,16 +279,16 @@ fn header_refusals() {
 fn extension_refusals() {
     assert_eq!(extension(&DISPLAY, true), Ok(Extension::Display(DISPLAY_RECORD)));
     assert_eq!(extension(&DISPLAY, false), Ok(Extension::Opaque(2)));
-    assert_eq!(extension(&[], true), Err(6));
-    assert_eq!(extension(&[0x2F], true), Err(6));
+    assert_eq!(extension(&[], true), plain(6));
+    assert_eq!(extension(&[0x2F], true), plain(6));
     assert_eq!(extension(&[0x2F], false), Ok(Extension::Opaque(2)));
-    assert_eq!(extension(&[0x20, 0x80, 0, 0, 0, 0x80, 0, 0], true), Err(6));
-    assert_eq!(extension(&[0x20, 0, 1, 0, 3, 0x80], true), Err(8));
-    assert_eq!(extension(&[0x20, 0, 1, 0, 2, 0], true), Err(9));
+    assert_eq!(extension(&[0x20, 0x80, 0, 0, 0, 0x80, 0, 0], true), plain(6));
+    assert_eq!(extension(&[0x20, 0, 1, 0, 3, 0x80], true), at_bit(28, 38));
+    assert_eq!(extension(&[0x20, 0, 1, 0, 2, 0], true), plain(9));
 }
 
 /// A display extension with these primaries, transfer and matrix.
-fn coloured(primaries: u64, transfer: u64, matrix: u64) -> Result<Extension, u32> {
+fn coloured(primaries: u64, transfer: u64, matrix: u64) -> Result<Extension, Fault> {
     let bits = 0x2080_0000_0001_0001 | primaries << 47 | transfer << 39 | matrix << 31;
     extension(&[&bits.to_be_bytes()[..], &[0x80]].concat(), true)
 }
@@ -315,9 +335,9 @@ fn copyrights() {
     assert_eq!(read([0, 0], 0), record(0, 0, 0));
     assert_eq!(read([8, 0], 0), record(1, 0, 0));
     assert_eq!(read([8, 8], 5), record(1, 1, 5));
-    assert_eq!(read([0, 8], 0), Err(8));
-    assert_eq!(read([8, 0], 5), Err(8));
-    assert_eq!(read([0, 0], 5), Err(8));
+    assert_eq!(read([0, 8], 0), at_bit(29, 5));
+    assert_eq!(read([8, 0], 5), at_bit(30, 22));
+    assert_eq!(read([0, 0], 5), at_bit(30, 22));
     let most = [0x4F, 0xFC, 0x07, 0xFF, 0xFF, 0xFF, 0xFF, 0xFF, 0xFF, 0xFF, 0xFF, 0x80];
     let all = Copyright {
         flag: 1,
@@ -327,8 +347,8 @@ fn copyrights() {
     };
     assert_eq!(extension(&most, true), Ok(Extension::Copyright(all)));
     // A marker comes before the rule after the last field, and that before the stuffing.
-    assert_eq!(extension(&[0x40, 8, 4, 0, 0, 0x20, 0, 0, 0, 0, 0, 0], true), Err(7));
-    assert_eq!(extension(&[0x40, 8, 4, 0, 0, 0x20, 0, 0, 0x40, 0, 0, 0], true), Err(8));
+    assert_eq!(extension(&[0x40, 8, 4, 0, 0, 0x20, 0, 0, 0, 0, 0, 0], true), at_bit(7, 65));
+    assert_eq!(extension(&[0x40, 8, 4, 0, 0, 0x20, 0, 0, 0x40, 0, 0, 0], true), at_bit(29, 5));
 }
 
 #[test]
@@ -348,15 +368,9 @@ fn groups() {
     let h = header(&H).unwrap();
     assert_eq!(group(&stream, 0), Ok((h, Some(DISPLAY_RECORD))));
     assert_eq!(group(&stream, 1), Ok((h, None)));
-    assert_eq!(group(&stream, 2), Err(Refused { number: 16, place: 0 }));
-    assert_eq!(group(&stream, u64::MAX), Err(Refused { number: 16, place: 0 }));
-    assert_eq!(
-        group(&stream[..stream.len() - 1], 9),
-        Err(Refused {
-            number: 2,
-            place: stream.len() as u64 - 4
-        })
-    );
+    assert_eq!(group(&stream, 2), refused(16, 0));
+    assert_eq!(group(&stream, u64::MAX), refused(16, 0));
+    assert_eq!(group(&stream[..stream.len() - 1], 9), refused(2, stream.len() as u64 - 4));
 }
 
 #[test]
@@ -402,10 +416,23 @@ fn tables() {
     assert_eq!((macroblock_columns(&h), macroblock_rows(&h)), (268_435_456, 0));
     h.vertical = u32::MAX;
     assert_eq!(macroblock_rows(&h), 268_435_456);
+}
+
+#[test]
+fn names() {
+    assert_eq!([name(0), name(1), name(8)], ["FILED", "NO CODE", "VALUE"].map(Some));
     assert_eq!(
-        (NAMES[0], NAMES[1], NAMES[10], NAMES[16]),
-        ("FILED", "NO CODE", "TWICE", "NO ROW")
+        [name(16), name(20), name(21)],
+        ["NO ROW", "VALUE of width", "VALUE of height"].map(Some)
     );
+    assert_eq!(
+        [name(30), name(32)],
+        ["VALUE of copyright number", "VALUE of slice row"].map(Some)
+    );
+    for number in [17, 18, 19, 33, u32::MAX] {
+        assert_eq!(name(number), None);
+    }
+    assert!(NAMES.windows(2).all(|two| two[0].0 < two[1].0));
 }
 
 #[test]
@@ -415,12 +442,12 @@ fn the_longest_stream() {
     let mut stream = write(&[head, (0xB2, &zeros), PICTURE, SLICE, END]);
     assert_eq!(stream.len(), 16_777_216);
     assert_eq!(file(&stream, &mut [0; 15]), Ok(5));
-    assert_eq!(file(&stream, &mut [0; 14]), Err(Refused { number: 12, place: 0 }));
+    assert_eq!(file(&stream, &mut [0; 14]), refused(12, 0));
     stream[0] = 1;
-    assert_eq!(file(&stream, &mut []), Err(Refused { number: 1, place: 0 }));
+    assert_eq!(file(&stream, &mut []), refused(1, 0));
     stream.push(0);
-    assert_eq!(file(&stream, &mut []), Err(Refused { number: 13, place: 0 }));
-    assert_eq!(group(&stream, 0), Err(Refused { number: 13, place: 0 }));
+    assert_eq!(file(&stream, &mut []), refused(13, 0));
+    assert_eq!(group(&stream, 0), refused(13, 0));
 }
 
 #[test]

@@ -14,9 +14,21 @@ fn recording(header: &[u8], slice: u8) -> Vec<u8> {
     stream
 }
 
+/// A refusal that carries no bit.
 fn refused(number: u32, place: u64) -> Result<u64, Refused> {
-    Err(Refused { number, place })
+    Err(Refused {
+        number,
+        place,
+        bit: None,
+    })
 }
+
+/// Example 7 as document 02, E1 has it.
+const SLICE_ROW_REFUSED: Refused = Refused {
+    number: 32,
+    place: 24,
+    bit: Some(0),
+};
 
 #[test]
 fn header_h() {
@@ -55,20 +67,21 @@ fn examples_without_rows() {
     assert_eq!(check(&stream[..29]), refused(11, 29));
     assert_eq!(check(&stream[..stream.len() - 1]), refused(2, 29));
     assert_eq!(check(&[]), refused(1, 0));
-    assert_eq!(check(&recording(&H, 0x44)), refused(8, 24));
+    assert_eq!(check(&recording(&H, 0x44)), Err(SLICE_ROW_REFUSED));
 }
 
 #[test]
 fn example_6() {
     let mut body = H;
     body[14] = 0;
-    assert_eq!(header(&body), Err(9));
+    assert_eq!(header(&body), Err(Fault { number: 9, bit: None }));
     assert_eq!(file(&recording(&body, 0), &mut [0; 12]), refused(9, 0));
 }
 
 #[test]
 fn example_7() {
-    assert_eq!(file(&recording(&H, 0x44), &mut [0; 12]), refused(8, 24));
+    assert_eq!(file(&recording(&H, 0x44), &mut [0; 12]), Err(SLICE_ROW_REFUSED));
+    assert_eq!(group(&recording(&H, 0x44), 0), Err(SLICE_ROW_REFUSED));
     assert_eq!(file(&recording(&H, 0x43), &mut [0; 12]), Ok(4));
 }
 

@@ -1,5 +1,7 @@
 //! The generators, measured with this package's own decoder.
 
+use std::collections::BTreeMap;
+
 use independent::generate::*;
 use independent::*;
 
@@ -32,27 +34,74 @@ fn good_streams_are_filed() {
     assert!(longest > 4000, "{longest}");
 }
 
+/// One more than the greatest number of an answer.
+const NUMBERS: usize = 33;
+
+/// Whether damaged streams have this number: those of rows, payloads and bins they have not.
+fn is_filed_with(number: usize) -> bool {
+    !matches!(number, 8 | 12..=19)
+}
+
 #[test]
 fn every_filing_refusal_is_met() {
     let mut random = Random::new(2);
-    let mut met = [0; 17];
-    let mut later = [0; 17];
-    let mut furthest = [0; 17];
+    let mut met = [0; NUMBERS];
+    let mut later = [0; NUMBERS];
+    let mut furthest = [0; NUMBERS];
     for _ in 0..20_000 {
         let (number, unit) = outcome(&damaged(&mut random));
         met[number] += 1;
         later[number] += usize::from(unit >= 3);
         furthest[number] = furthest[number].max(unit);
     }
-    for number in 0..12 {
-        let (count, late, far) = (met[number], later[number], furthest[number]);
+    for (number, name) in NAMES {
+        let n = number as usize;
         println!(
-            "{number:2} {:12} {count:5} times, {late:5} at unit 3 or later, furthest {far}",
-            NAMES[number]
+            "{:2} {:25} {:5} times, {:5} at unit 3 or later, furthest {}",
+            number, name, met[n], later[n], furthest[n]
         );
     }
-    assert!(met[1..12].iter().all(|&count| count >= 100), "{met:?}");
-    assert!(met[12..].iter().all(|&count| count == 0), "{met:?}");
+    for (number, &count) in met.iter().enumerate() {
+        assert_eq!(count > 0, is_filed_with(number), "{}: {:?}", number, met);
+    }
+    assert!(met[1..12].iter().all(|&count| count == 0 || count >= 100), "{:?}", met);
+}
+
+/// How many groups begin up to this place of a stream.
+fn groups_up_to(stream: &[u8], place: u64) -> usize {
+    let units = stream.windows(4).take(place as usize + 1);
+    units.filter(|unit| *unit == [0, 0, 1, 0xB0]).count()
+}
+
+/// Every bit in bodies, and in the first and later groups of streams.
+#[test]
+fn every_bit_is_met() {
+    let mut random = Random::new(12);
+    let mut met: BTreeMap<(u32, u64), [u32; 3]> = BTreeMap::new();
+    let mut count = |number, bit: Option<u64>, column: usize| {
+        if let Some(bit) = bit {
+            met.entry((number, bit)).or_insert([0; 3])[column] += 1;
+        }
+    };
+    for _ in 0..20_000 {
+        let faults = [
+            header(&header_body(&mut random)).err(),
+            extension(&extension_body(&mut random), true).err(),
+        ];
+        faults.iter().flatten().for_each(|fault| count(fault.number, fault.bit, 0));
+        let stream = damaged(&mut random);
+        if let Err(refused) = check(&stream) {
+            let later = groups_up_to(&stream, refused.place) > 1;
+            count(refused.number, refused.bit, 1 + usize::from(later));
+        }
+    }
+    for ((number, bit), [bodies, first, later]) in &met {
+        println!(
+            "{:2} at bit {:2}: {:5} bodies, {:5} in the first group, {:5} later",
+            number, bit, bodies, first, later
+        );
+    }
+    assert_eq!(met.keys().copied().collect::<Vec<_>>(), BITS);
 }
 
 /// Of each group of a filed stream: progressive, vertical size, and whether a slice is in its last row.
@@ -98,8 +147,8 @@ fn both_counts_of_rows_are_met() {
 }
 
 /// How often each number comes up in 20,000 tries.
-fn tally(mut try_once: impl FnMut() -> u32) -> [u32; 17] {
-    let mut met = [0; 17];
+fn tally(mut try_once: impl FnMut() -> u32) -> [u32; NUMBERS] {
+    let mut met = [0; NUMBERS];
     for _ in 0..20_000 {
         met[try_once() as usize] += 1;
     }
@@ -113,12 +162,14 @@ fn number<T>(answer: Result<T, u32>) -> u32 {
 #[test]
 fn bodies_are_good_about_half_the_time() {
     let mut random = Random::new(3);
-    let headers = tally(|| number(header(&header_body(&mut random))));
-    let extensions = tally(|| number(extension(&extension_body(&mut random), true)));
+    let of_body = |fault: Option<Fault>| fault.map_or(0, |fault| fault.number);
+    let headers = tally(|| of_body(header(&header_body(&mut random)).err()));
+    let extensions = tally(|| of_body(extension(&extension_body(&mut random), true).err()));
     println!("headers {headers:?}\nextensions {extensions:?}");
     for met in [headers, extensions] {
         assert!((8000..=14_000).contains(&met[0]));
-        assert!(met[6..10].iter().all(|&count| count >= 500));
+        assert!([6, 7, 9].iter().all(|&number| met[number] >= 500));
+        assert!(met[20..].iter().sum::<u32>() >= 500);
     }
 }
 
@@ -195,7 +246,7 @@ fn refusals_write_nothing() {
         }
         let g = random.below(4);
         let same = match (file(&bytes, &mut vec![0; 3 * bytes.len()]), group(&bytes, g)) {
-            (Ok(_), Err(refused)) => refused == Refused { number: 16, place: 0 },
+            (Ok(_), Err(refused)) => refused.number == 16 && refused.place == 0 && refused.bit.is_none(),
             (Ok(_), Ok(_)) => true,
             (Err(a), b) => b == Err(a),
         };

@@ -11,3 +11,28 @@ pub use damage::damaged;
 pub use payloads::{bins_payload, context, payload, state};
 pub use random::Random;
 pub use recording::stream;
+
+/// Every number that carries a bit, with each bit that it can carry (document 02, E1): what inputs have to meet.
+pub const BITS: [(u32, u64); 21] = [
+    (7, 21),
+    (7, 23),
+    (7, 42),
+    (7, 47),
+    (7, 65),
+    (7, 76),
+    (7, 90),
+    (20, 17),
+    (21, 31),
+    (22, 45),
+    (23, 47),
+    (24, 50),
+    (25, 54),
+    (26, 17),
+    (27, 25),
+    (28, 38),
+    (28, 62),
+    (29, 5),
+    (30, 22),
+    (31, 0),
+    (32, 0),
+];
