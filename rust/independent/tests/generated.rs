@@ -73,35 +73,75 @@ fn groups_up_to(stream: &[u8], place: u64) -> usize {
     units.filter(|unit| *unit == [0, 0, 1, 0xB0]).count()
 }
 
-/// Every bit in bodies, and in the first and later groups of streams.
+/// How often each number was met with each bit: in bodies, in the first group of streams and in later ones.
+#[derive(Default)]
+struct Met(BTreeMap<(u32, u64), [u32; 3]>);
+
+impl Met {
+    fn count(&mut self, number: u32, bit: Option<u64>, column: usize) {
+        if let Some(bit) = bit {
+            self.0.entry((number, bit)).or_insert([0; 3])[column] += 1;
+        }
+    }
+
+    fn body<T>(&mut self, read: Result<T, Fault>) {
+        if let Err(fault) = read {
+            self.count(fault.number, fault.bit, 0);
+        }
+    }
+
+    fn stream(&mut self, stream: &[u8]) {
+        if let Err(refused) = check(stream) {
+            let later = groups_up_to(stream, refused.place) > 1;
+            self.count(refused.number, refused.bit, 1 + usize::from(later));
+        }
+    }
+
+    /// All that document 02, E1 has, and nothing else, each so often.
+    fn assert_all(&self, least: u32) {
+        for ((number, bit), counts) in &self.0 {
+            let [bodies, first, later] = counts;
+            println!("{number:2} at bit {bit:2}: {bodies:4} bodies, {first:4} in the first group, {later:4} later");
+            // A slice has no body that is asked about alone.
+            let asked = if *number < 31 { &counts[..] } else { &counts[1..] };
+            assert!(asked.iter().all(|&count| count >= least), "{number} at bit {bit}: {counts:?}");
+        }
+        assert_eq!(self.0.keys().copied().collect::<Vec<_>>(), BITS);
+    }
+}
+
 #[test]
 fn every_bit_is_met() {
     let mut random = Random::new(12);
-    let mut met: BTreeMap<(u32, u64), [u32; 3]> = BTreeMap::new();
-    let mut count = |number, bit: Option<u64>, column: usize| {
-        if let Some(bit) = bit {
-            met.entry((number, bit)).or_insert([0; 3])[column] += 1;
-        }
-    };
+    let mut met = Met::default();
     for _ in 0..20_000 {
-        let faults = [
-            header(&header_body(&mut random)).err(),
-            extension(&extension_body(&mut random), true).err(),
-        ];
-        faults.iter().flatten().for_each(|fault| count(fault.number, fault.bit, 0));
-        let stream = damaged(&mut random);
-        if let Err(refused) = check(&stream) {
-            let later = groups_up_to(&stream, refused.place) > 1;
-            count(refused.number, refused.bit, 1 + usize::from(later));
+        met.body(header(&header_body(&mut random)));
+        met.body(extension(&extension_body(&mut random), true));
+        met.stream(&damaged(&mut random));
+    }
+    met.assert_all(10);
+}
+
+/// The bodies that go through the values one by one, few and all; a slice is not among them.
+#[test]
+fn judged_bodies_meet_every_bit_of_a_body() {
+    for all in [false, true] {
+        let mut met = Met::default();
+        let bodies = judged_bodies(all);
+        for body in &bodies {
+            match body.code {
+                0xB0 => met.body(header(&body.bytes)),
+                _ => met.body(extension(&body.bytes, true)),
+            }
+            streams_with(body).iter().for_each(|stream| met.stream(stream));
         }
+        let streams: usize = bodies.iter().map(|body| streams_with(body).len()).sum();
+        println!("{} bodies, {} streams", bodies.len(), streams);
+        for bit in [(31, 0), (32, 0)] {
+            assert_eq!(met.0.insert(bit, [1; 3]), None);
+        }
+        met.assert_all(1);
     }
-    for ((number, bit), [bodies, first, later]) in &met {
-        println!(
-            "{:2} at bit {:2}: {:5} bodies, {:5} in the first group, {:5} later",
-            number, bit, bodies, first, later
-        );
-    }
-    assert_eq!(met.keys().copied().collect::<Vec<_>>(), BITS);
 }
 
 /// Of each group of a filed stream: progressive, vertical size, and whether a slice is in its last row.

@@ -23,15 +23,23 @@ fn find(random: &mut Random, pieces: &[Piece], wanted: impl Fn(&Piece) -> bool) 
     }
 }
 
+/// The same in any group, or every other time in a later one, where there is one.
+fn find_in_groups(random: &mut Random, pieces: &[Piece], wanted: impl Fn(&Piece) -> bool) -> Option<usize> {
+    let mut headers = (0..pieces.len()).filter(|&i| pieces[i].code == 0xB0);
+    let later = if random.once_in(2) { headers.nth(1) } else { None };
+    let from = later.unwrap_or(0);
+    find(random, &pieces[from..], wanted).map(|i| from + i)
+}
+
 fn is_slice(piece: &Piece) -> bool {
     piece.code < 0xB0
 }
 
 /// An extension unit with one of the three layouts of extensions.
 fn laid_out_extension(random: &mut Random, rows: u64) -> Piece {
-    let (body, layout): (Vec<u8>, &'static Layout) = match random.below(4) {
+    let (body, layout): (Vec<u8>, &'static Layout) = match random.below(5) {
         0 => (good_display(random, false), &DISPLAY),
-        1 => (good_display(random, true), &COLOUR_DISPLAY),
+        1 | 2 => (good_display(random, true), &COLOUR_DISPLAY),
         _ => (good_copyright(random), &COPYRIGHT),
     };
     Piece::new(0xB5, body, Some(layout), rows)
@@ -83,15 +91,22 @@ fn change_code(random: &mut Random, pieces: &mut [Piece]) {
     };
 }
 
-/// Spoils a body that has a layout in the given way; puts an extension in first, now and then.
+/// Puts an extension with a layout right after a sequence header, and answers where.
+fn put_extension(random: &mut Random, pieces: &mut Vec<Piece>) -> Option<usize> {
+    let head = find_in_groups(random, pieces, |piece| piece.code == 0xB0)?;
+    let extension = laid_out_extension(random, pieces[head].rows);
+    pieces.insert(head + 1, extension);
+    Some(head + 1)
+}
+
+/// Spoils a body that has a layout in the given way: one that is there, or an extension put in for it.
 fn spoil_layout(random: &mut Random, pieces: &mut Vec<Piece>, way: fn(&mut Random, &Layout, &mut Vec<u8>)) {
-    if random.once_in(2) {
-        if let Some(head) = find(random, pieces, |piece| piece.code == 0xB0) {
-            let extension = laid_out_extension(random, pieces[head].rows);
-            pieces.insert(head + 1, extension);
-        }
-    }
-    if let Some(i) = find(random, pieces, |piece| piece.layout.is_some()) {
+    let found = if random.once_in(2) {
+        put_extension(random, pieces)
+    } else {
+        find_in_groups(random, pieces, |piece| piece.layout.is_some())
+    };
+    if let Some(i) = found {
         let piece = &mut pieces[i];
         if let Some(layout) = piece.layout {
             way(random, layout, &mut piece.body);
@@ -122,7 +137,7 @@ fn two_displays(random: &mut Random, pieces: &mut Vec<Piece>) {
 
 /// A slice code at or over the rows, or not over the code before it.
 fn slice_code(random: &mut Random, pieces: &mut [Piece]) {
-    if let Some(i) = find(random, pieces, is_slice) {
+    if let Some(i) = find_in_groups(random, pieces, is_slice) {
         let before = pieces[i.max(1) - 1].code;
         let rows = pieces[i].rows.min(0xAF) as u8;
         pieces[i].code = match random.below(5) {

@@ -2,12 +2,14 @@
 
 mod bodies;
 mod damage;
+mod fields;
 mod payloads;
 mod random;
 mod recording;
 
 pub use bodies::{extension_body, header_body};
 pub use damage::damaged;
+pub use fields::{judged_bodies, streams_with, Body};
 pub use payloads::{bins_payload, context, payload, state};
 pub use random::Random;
 pub use recording::stream;
