@@ -23,9 +23,10 @@ extern "C" {
 #endif
 
 /* The number of this interface, raised when it changes: compare it with what avsplus_version answers. */
-#define AVSPLUS_VERSION 1u
+#define AVSPLUS_VERSION 2u
 
-/* A status: 0, or the number of a refusal: docs/RULES.md, "Refusal numbers". */
+/* A status: 0, or the number of a refusal: docs/RULES.md, "Refusal numbers". From 20 on each is a field's whose value is ruled
+ * out; AVSPLUS_VALUE is an Exp-Golomb number's alone. */
 enum {
     AVSPLUS_DONE = 0, /* FILED, for filing */
     AVSPLUS_NO_CODE = 1,
@@ -35,7 +36,7 @@ enum {
     AVSPLUS_OUT_OF_PLACE = 5,
     AVSPLUS_SHORT = 6,
     AVSPLUS_MARKER = 7,
-    AVSPLUS_VALUE = 8,
+    AVSPLUS_VALUE = 8, /* of an Exp-Golomb number */
     AVSPLUS_STUFFING = 9,
     AVSPLUS_TWICE = 10,
     AVSPLUS_UNENDED = 11,
@@ -43,18 +44,35 @@ enum {
     AVSPLUS_TOO_LONG = 13,
     AVSPLUS_PAYLOAD_OUT = 14,
     AVSPLUS_BAD_STATE = 15,
-    AVSPLUS_NO_ROW = 16
+    AVSPLUS_NO_ROW = 16,
+    AVSPLUS_VALUE_WIDTH = 20,  /* a sequence header's horizontal size */
+    AVSPLUS_VALUE_HEIGHT = 21, /* and its vertical size */
+    AVSPLUS_VALUE_CHROMA = 22,
+    AVSPLUS_VALUE_PRECISION = 23,
+    AVSPLUS_VALUE_ASPECT = 24,
+    AVSPLUS_VALUE_RATE = 25,
+    AVSPLUS_VALUE_TRANSFER = 26,
+    AVSPLUS_VALUE_MATRIX = 27,
+    AVSPLUS_VALUE_STEREO = 28,
+    AVSPLUS_VALUE_COPYRIGHT_OWNER = 29,
+    AVSPLUS_VALUE_COPYRIGHT_NUMBER = 30,
+    AVSPLUS_VALUE_SLICE_ORDER = 31,
+    AVSPLUS_VALUE_SLICE_ROW = 32
 };
 
 /* The most bytes of a stream, and of a payload. */
 #define AVSPLUS_LONGEST_STREAM 16777216u
 #define AVSPLUS_LONGEST_PAYLOAD 65536u
 
+#define AVSPLUS_NO_BIT SIZE_MAX /* is no bit of a body: no refusal has so great a one */
+
 /* What a call answers. */
 typedef struct {
     uint32_t status;
     size_t offset; /* of a refused stream, where in it the refusal stands; 0 where the answer has no offset */
     size_t count;  /* how many units, numbers or bits there are; 0 for a refusal and for what is not given */
+    size_t bit;    /* of MARKER and of statuses 20 to 32, which bit of the body, counted from 0: the marker, the first bit of the
+                    * field, or 0 for a slice, which is refused for its code byte; AVSPLUS_NO_BIT for every other status */
 } avsplus_answer;
 
 /* A part of a stream. */
@@ -178,14 +196,16 @@ avsplus_answer avsplus_group(const uint8_t *stream, size_t length, size_t g, uin
 
 /* ── bodies ── */
 
-/* A sequence header's body. Done: AVSPLUS_HEADER_NUMBERS numbers, later ones stay. Refused with SHORT, MARKER, VALUE or
- * STUFFING, or with FULL where the body is good and fewer numbers are lent; all stay. */
+/* A sequence header's body. Done: AVSPLUS_HEADER_NUMBERS numbers, later ones stay. Refused with SHORT, MARKER or one of
+ * AVSPLUS_VALUE_WIDTH to AVSPLUS_VALUE_RATE with the bit and no offset, or STUFFING, or with FULL where the body is good and
+ * fewer numbers are lent; all stay. */
 avsplus_answer avsplus_sequence_header(const uint8_t *body, size_t length, uint64_t *numbers, size_t lent);
 
 /* An extension's body: in_head says whether it stands in a group's head or after a picture header. Done:
  * AVSPLUS_EXTENSION_DISPLAY numbers for a display extension or AVSPLUS_EXTENSION_WITH_COLOUR with its colour,
  * AVSPLUS_EXTENSION_COPYRIGHT for a copyright extension, AVSPLUS_EXTENSION_OPAQUE for any other; later ones stay. Refused with
- * SHORT, MARKER, VALUE or STUFFING, or with FULL where the body is good and fewer numbers are lent than it has; all stay. */
+ * SHORT, MARKER or one of AVSPLUS_VALUE_TRANSFER to AVSPLUS_VALUE_COPYRIGHT_NUMBER with the bit and no offset, or STUFFING, or
+ * with FULL where the body is good and fewer numbers are lent than it has; all stay. */
 avsplus_answer avsplus_extension(const uint8_t *body, size_t length, bool in_head, uint64_t *numbers, size_t lent);
 
 /* The frame rate of a code: AVSPLUS_RATIO_NUMBERS numbers, later ones stay, or done with count 0 for a code that gives none.

@@ -44,7 +44,14 @@ WORDS = {
 }
 
 # Values that are written as names.
-NAMED = {"UINT32_MAX": 2**32 - 1, "INT32_MIN": -(2**31), "u32::MAX": 2**32 - 1, "i32::MIN": -(2**31)}
+NAMED = {
+    "UINT32_MAX": 2**32 - 1,
+    "u32::MAX": 2**32 - 1,
+    "INT32_MIN": -(2**31),
+    "i32::MIN": -(2**31),
+    "SIZE_MAX": 2**64 - 1,
+    "usize::MAX": 2**64 - 1,
+}
 
 
 def read(path):
@@ -155,6 +162,7 @@ def named():
     for path, functions in (
         ("crates/avsplus/specs/Interface.antt", ["version"]),
         ("crates/answers/specs/Limits.antt", ["longestStream", "longestPayload"]),
+        ("crates/statuses/specs/Answers.antt", ["noBit"]),
         ("crates/marked/specs/Payloads.antt", ["noNumber", "noSignedNumber", "noBin"]),
     ):
         yield from ((capitals(function), value(read(path), function)) for function in functions)

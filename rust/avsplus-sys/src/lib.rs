@@ -12,7 +12,7 @@
 #![deny(missing_docs)]
 
 /// The number of this interface, raised when it changes: compare it with what [`avsplus_version`] answers.
-pub const AVSPLUS_VERSION: u32 = 1;
+pub const AVSPLUS_VERSION: u32 = 2;
 
 /// Status: done, or FILED for filing.
 pub const AVSPLUS_DONE: u32 = 0;
@@ -30,7 +30,8 @@ pub const AVSPLUS_OUT_OF_PLACE: u32 = 5;
 pub const AVSPLUS_SHORT: u32 = 6;
 /// Status: a marker bit is 0.
 pub const AVSPLUS_MARKER: u32 = 7;
-/// Status: a value that is ruled out.
+/// Status: an Exp-Golomb number with 32 zeros or more before its first 1. Values of fields have statuses of their own, from
+/// [`AVSPLUS_VALUE_WIDTH`] on.
 pub const AVSPLUS_VALUE: u32 = 8;
 /// Status: a body's end is not as required.
 pub const AVSPLUS_STUFFING: u32 = 9;
@@ -48,6 +49,32 @@ pub const AVSPLUS_PAYLOAD_OUT: u32 = 14;
 pub const AVSPLUS_BAD_STATE: u32 = 15;
 /// Status: no such row or group.
 pub const AVSPLUS_NO_ROW: u32 = 16;
+/// Status: a horizontal size of 0.
+pub const AVSPLUS_VALUE_WIDTH: u32 = 20;
+/// Status: a vertical size of 0.
+pub const AVSPLUS_VALUE_HEIGHT: u32 = 21;
+/// Status: a chroma format other than 1 or 2.
+pub const AVSPLUS_VALUE_CHROMA: u32 = 22;
+/// Status: a precision other than 1.
+pub const AVSPLUS_VALUE_PRECISION: u32 = 23;
+/// Status: an aspect outside 1 to 4.
+pub const AVSPLUS_VALUE_ASPECT: u32 = 24;
+/// Status: a frame rate code outside 1 to 8.
+pub const AVSPLUS_VALUE_RATE: u32 = 25;
+/// Status: transfer 0, 3 or above 10.
+pub const AVSPLUS_VALUE_TRANSFER: u32 = 26;
+/// Status: matrix 0, 3 or above 7.
+pub const AVSPLUS_VALUE_MATRIX: u32 = 27;
+/// Status: stereo 3.
+pub const AVSPLUS_VALUE_STEREO: u32 = 28;
+/// Status: a copyright owner other than 0 with flag 0.
+pub const AVSPLUS_VALUE_COPYRIGHT_OWNER: u32 = 29;
+/// Status: a copyright number other than 0 with owner 0.
+pub const AVSPLUS_VALUE_COPYRIGHT_NUMBER: u32 = 30;
+/// Status: a slice's code byte not greater than that of the slice before it.
+pub const AVSPLUS_VALUE_SLICE_ORDER: u32 = 31;
+/// Status: a slice's code byte not less than the macroblock rows.
+pub const AVSPLUS_VALUE_SLICE_ROW: u32 = 32;
 
 /// The most bytes of a stream.
 pub const AVSPLUS_LONGEST_STREAM: u32 = 16_777_216;
@@ -159,6 +186,8 @@ pub const AVSPLUS_RATIO_DENOMINATOR: usize = 1;
 /// How many numbers a ratio has.
 pub const AVSPLUS_RATIO_NUMBERS: usize = 2;
 
+/// Is no bit of a body: no refusal has so great a one.
+pub const AVSPLUS_NO_BIT: usize = usize::MAX;
 /// Is no Exp-Golomb number.
 pub const AVSPLUS_NO_NUMBER: u32 = u32::MAX;
 /// Is no signed Exp-Golomb number.
@@ -195,6 +224,9 @@ pub struct Answer {
     pub offset: usize,
     /// How many units, numbers or bits there are; 0 for a refusal and for what is not given.
     pub count: usize,
+    /// Of [`AVSPLUS_MARKER`] and of statuses 20 to 32, which bit of the body, counted from 0: the marker, the first bit of the
+    /// field, or 0 for a slice, which is refused for its code byte. [`AVSPLUS_NO_BIT`] for every other status.
+    pub bit: usize,
 }
 
 /// A part of a stream.
