@@ -5,7 +5,7 @@ use std::fmt;
 use avsplus_sys::{Answer, AVSPLUS_EXTENSION_WITH_COLOUR, AVSPLUS_HEADER_NUMBERS, AVSPLUS_RATIO_NUMBERS};
 
 use crate::calls;
-use crate::refused::{done, Reason, Refused};
+use crate::refused::{answered, Reason, Refused};
 
 /// A fraction.
 #[derive(Debug, Clone, Copy, PartialEq, Eq, Hash)]
@@ -277,7 +277,7 @@ pub fn display_ratio(aspect: u32) -> Result<Option<DisplayRatio>, Refused> {
 /// Reads the body of a sequence header.
 ///
 /// ```
-/// use avsplus::Reason;
+/// use avsplus::{JudgedField, Reason};
 ///
 /// let mut body = [0x48, 0x40, 0x0F, 0x00, 0x21, 0xC2, 0x4C, 0xC4, 0xE2, 0x08, 0x00, 0x20, 0x02, 0x00, 0x80];
 /// let header = avsplus::sequence_header(&body)?;
@@ -287,6 +287,12 @@ pub fn display_ratio(aspect: u32) -> Result<Option<DisplayRatio>, Refused> {
 ///
 /// body[14] = 0x00;
 /// assert_eq!(avsplus::sequence_header(&body).unwrap_err().reason, Reason::Stuffing);
+///
+/// // Frame rate code 0, which comes before the body's end.
+/// body[7] &= 0x3F;
+/// let refused = avsplus::sequence_header(&body).unwrap_err();
+/// assert_eq!(refused.reason, Reason::ValueOf { field: JudgedField::Rate, bit: 54 });
+/// assert_eq!(refused.to_string(), "VALUE of rate (25) at bit 54 of the body");
 /// # Ok::<(), avsplus::Refused>(())
 /// ```
 pub fn sequence_header(body: &[u8]) -> Result<SequenceHeader, Refused> {
@@ -344,9 +350,8 @@ fn read<T>(
     call: impl FnOnce(&mut [u64]) -> Result<Answer, Refused>,
     record: impl FnOnce(&[u64]) -> Result<T, Refused>,
 ) -> Result<T, Refused> {
-    let answer = call(numbers)?;
-    done(answer.status)?;
-    record(numbers.get(..answer.count).ok_or(Reason::Malformed)?)
+    let count = answered(call(numbers)?)?;
+    record(numbers.get(..count).ok_or(Reason::Malformed)?)
 }
 
 /// A ratio, where the call hands one over.
@@ -366,7 +371,10 @@ fn ratio(call: impl FnOnce(&mut [u64]) -> Result<Answer, Refused>) -> Result<Opt
 
 #[cfg(test)]
 mod tests {
+    use avsplus_sys::AVSPLUS_NO_BIT;
+
     use super::*;
+    use crate::refused::JudgedField;
 
     /// Counts that have a record, where the first number is this and all others 1; `make` says whether one is made of so many.
     fn counts(first: u64, make: impl Fn(&[u64]) -> bool) -> Vec<usize> {
@@ -400,14 +408,21 @@ mod tests {
 
     #[test]
     fn an_answer_of_no_form_is_an_error() {
-        for count in [0, 2, 3, usize::MAX] {
+        for (count, bit) in [
+            (0, AVSPLUS_NO_BIT),
+            (2, AVSPLUS_NO_BIT),
+            (2, 0),
+            (3, AVSPLUS_NO_BIT),
+            (usize::MAX, AVSPLUS_NO_BIT),
+        ] {
             let answer = Answer {
                 status: 0,
                 offset: 0,
                 count,
+                bit,
             };
             let read = read(&mut [0; 2], |_| Ok(answer), words::<2>);
-            let expected = if count == 2 {
+            let expected = if (count, bit) == (2, AVSPLUS_NO_BIT) {
                 Ok([0, 0])
             } else {
                 Err(Reason::Malformed.into())
@@ -430,6 +445,10 @@ mod tests {
             [1, 2, 3, 4].map(|aspect| says(aspect).unwrap()),
             ["square samples", "4/3", "16/9", "221/100"]
         );
-        assert_eq!((says(0), says(5)), (Err(Reason::Value.into()), Err(Reason::Value.into())));
+        let refused = Err(Refused::from(Reason::ValueOf {
+            field: JudgedField::Aspect,
+            bit: 50,
+        }));
+        assert_eq!((says(0), says(5)), (refused.clone(), refused));
     }
 }

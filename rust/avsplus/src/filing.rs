@@ -178,6 +178,7 @@ mod tests {
             status: 0,
             offset: 0,
             count,
+            bit: sys::AVSPLUS_NO_BIT,
         };
         assert_eq!(Totals::of(&[0; 8], answer(2)), Ok(Totals { units: 2 }));
         for count in [3, usize::MAX] {

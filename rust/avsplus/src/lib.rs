@@ -9,6 +9,10 @@
 //! `avsplus-sys`. There is one error, [`Refused`]; which refusals a call can have, and exactly when, is in docs/RULES.md of the
 //! project.
 //!
+//! A refusal for a marker, or for a value that is ruled out in a body, says at which bit of the body, and which field it is of:
+//! [`Reason::Marker`] and [`Reason::ValueOf`], which is a slice's too. [`Reason::Value`] is an Exp-Golomb number's alone, since
+//! version 2 of the interface.
+//!
 //! ```
 //! let header = [0x48, 0x40, 0x0F, 0x00, 0x21, 0xC2, 0x4C, 0xC4, 0xE2, 0x08, 0x00, 0x20, 0x02, 0x00, 0x80];
 //! let rest = [0, 0, 1, 0xB3, 0x80, 0, 0, 1, 0x00, 0x80, 0, 0, 1, 0xB1];
@@ -47,7 +51,7 @@ pub use filing::{check, file_into, group, next_start_code, row_body, row_exists,
 pub use kinds::Kind;
 pub use payload::{remove_escapes, remove_escapes_into, Payload, LONGEST_PAYLOAD};
 pub use recording::{file, Groups, Recording, Unit, Units};
-pub use refused::{Reason, Refused};
+pub use refused::{JudgedField, ListedRefusal, Reason, Refused};
 
 /// The number of the interface that this crate was written for.
 pub const INTERFACE: u32 = avsplus_sys::AVSPLUS_VERSION;

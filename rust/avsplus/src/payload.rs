@@ -6,7 +6,7 @@ use std::fmt;
 use avsplus_sys as sys;
 
 use crate::calls;
-use crate::refused::{done, Reason, Refused};
+use crate::refused::{answered, done, Reason, Refused};
 
 /// The most bytes of a payload.
 pub const LONGEST_PAYLOAD: usize = sys::AVSPLUS_LONGEST_PAYLOAD as usize;
@@ -148,10 +148,9 @@ pub fn remove_escapes(raw: &[u8]) -> Result<Payload<'static>, Refused> {
 /// # Ok::<(), avsplus::Refused>(())
 /// ```
 pub fn remove_escapes_into<'a>(raw: &[u8], output: &'a mut [u8]) -> Result<Payload<'a>, Refused> {
-    let answer = calls::remove_escapes(raw, output)?;
-    done(answer.status)?;
-    let bytes = output.get(..bytes_of(answer.count)).ok_or(Reason::Malformed)?;
-    Ok(Payload::first_bits(bytes, answer.count))
+    let bits = answered(calls::remove_escapes(raw, output)?)?;
+    let bytes = output.get(..bytes_of(bits)).ok_or(Reason::Malformed)?;
+    Ok(Payload::first_bits(bytes, bits))
 }
 
 /// How many bytes so many bits take.

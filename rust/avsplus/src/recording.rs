@@ -30,7 +30,7 @@ const BEFORE_BODY: usize = 4;
 /// stream[27] = 0x43;
 /// assert!(avsplus::file(&stream).is_ok());
 /// stream[27] = 0x44;
-/// assert_eq!(avsplus::file(&stream).unwrap_err().to_string(), "VALUE (8) at byte 24");
+/// assert_eq!(avsplus::file(&stream).unwrap_err().to_string(), "VALUE of slice row (32) at byte 24, bit 0 of the body");
 /// # Ok::<(), avsplus::Refused>(())
 /// ```
 pub fn file(stream: &[u8]) -> Result<Recording<'_>, Refused> {

@@ -5,7 +5,58 @@ use std::fmt;
 
 use avsplus_sys as sys;
 
+/// What a value that is ruled out in a body is of, or a slice's code byte: each has a number of its own, 20 to 32.
+#[derive(Debug, Clone, Copy, PartialEq, Eq, Hash)]
+pub enum JudgedField {
+    /// A sequence header's horizontal size.
+    Width,
+    /// A sequence header's vertical size.
+    Height,
+    /// A sequence header's chroma format.
+    Chroma,
+    /// A sequence header's precision.
+    Precision,
+    /// A sequence header's aspect.
+    Aspect,
+    /// A sequence header's frame rate code.
+    Rate,
+    /// The transfer of a display extension's colour.
+    Transfer,
+    /// The matrix of a display extension's colour.
+    Matrix,
+    /// A display extension's stereo.
+    Stereo,
+    /// A copyright extension's owner, which is 0 where its flag is.
+    CopyrightOwner,
+    /// A copyright extension's number, which is 0 where its owner is.
+    CopyrightNumber,
+    /// A slice's code byte, which is greater than that of the slice before it.
+    SliceOrder,
+    /// A slice's code byte, which is less than the macroblock rows.
+    SliceRow,
+}
+
+impl JudgedField {
+    /// Its name, such as "rate" or "copyright owner".
+    ///
+    /// ```
+    /// assert_eq!(avsplus::JudgedField::SliceRow.name(), "slice row");
+    /// ```
+    pub fn name(self) -> &'static str {
+        let entry = entry_of(Form::ValueOf(self)).expect("every field that is judged has an entry");
+        entry.listed.name.trim_start_matches(VALUE_OF)
+    }
+}
+
+impl fmt::Display for JudgedField {
+    fn fmt(&self, f: &mut fmt::Formatter<'_>) -> fmt::Result {
+        f.pad(self.name())
+    }
+}
+
 /// Why something is refused. Later versions may have more reasons.
+///
+/// Since version 2 of the interface `Value` is an Exp-Golomb number's alone: bodies and slices have `ValueOf`.
 #[derive(Debug, Clone, Copy, PartialEq, Eq, Hash)]
 #[non_exhaustive]
 pub enum Reason {
@@ -22,9 +73,19 @@ pub enum Reason {
     /// The body is too short for its layout; of a picture or slice, it has no byte but 00.
     Short,
     /// A marker bit is 0.
-    Marker,
-    /// A value is ruled out.
+    Marker {
+        /// Which bit of the body, counted from 0.
+        bit: usize,
+    },
+    /// An Exp-Golomb number has 32 zeros or more before its first 1.
     Value,
+    /// A value in a body is ruled out, or a slice's code byte.
+    ValueOf {
+        /// What it is of.
+        field: JudgedField,
+        /// The field's first bit in the body, counted from 0. 0 for a slice, which is refused for its code byte.
+        bit: usize,
+    },
     /// The body's end is not as required.
     Stuffing,
     /// A second display extension follows one sequence header.
@@ -49,60 +110,130 @@ pub enum Reason {
     Malformed,
 }
 
-/// A refusal of the library.
-struct Entry {
-    reason: Reason,
-    number: u32,
-    name: &'static str,
-    meaning: &'static str,
+/// A refusal of the library as it is listed for a person: what is the same of it wherever it stands. Later versions may say more.
+#[derive(Debug, Clone, Copy, PartialEq, Eq, Hash)]
+#[non_exhaustive]
+pub struct ListedRefusal {
+    /// The status that the library answers with.
+    pub number: u32,
+    /// Its name, such as "OUT OF PLACE" or "VALUE of rate".
+    pub name: &'static str,
+    /// What it means, in a few words.
+    pub meaning: &'static str,
 }
 
-const fn entry(reason: Reason, number: u32, name: &'static str, meaning: &'static str) -> Entry {
-    Entry {
-        reason,
-        number,
-        name,
-        meaning,
-    }
-}
-
-/// The refusals in the order of their numbers: what each is called, and what it means in a few words for a person.
-#[rustfmt::skip]
-const TABLE: [Entry; 16] = [
-    entry(Reason::NoCode, sys::AVSPLUS_NO_CODE, "NO CODE", "the stream does not begin with 00 00 01"),
-    entry(Reason::Cut, sys::AVSPLUS_CUT, "CUT", "a start code prefix has no code byte after it"),
-    entry(Reason::Overlap, sys::AVSPLUS_OVERLAP, "OVERLAP", "code byte 00 is followed by 00 01"),
-    entry(Reason::Unknown, sys::AVSPLUS_UNKNOWN, "UNKNOWN", "the code byte names no unit"),
-    entry(Reason::OutOfPlace, sys::AVSPLUS_OUT_OF_PLACE, "OUT OF PLACE", "no such unit may stand here"),
-    entry(Reason::Short, sys::AVSPLUS_SHORT, "SHORT", "the body has too few bytes, or none but 00"),
-    entry(Reason::Marker, sys::AVSPLUS_MARKER, "MARKER", "a marker bit is 0"),
-    entry(Reason::Value, sys::AVSPLUS_VALUE, "VALUE", "a value is ruled out"),
-    entry(Reason::Stuffing, sys::AVSPLUS_STUFFING, "STUFFING", "the body's end is not as required"),
-    entry(Reason::Twice, sys::AVSPLUS_TWICE, "TWICE", "a second display extension follows one sequence header"),
-    entry(Reason::Unended, sys::AVSPLUS_UNENDED, "UNENDED", "the stream stops before it is complete"),
-    entry(Reason::Full, sys::AVSPLUS_FULL, "FULL", "the room lent is too small"),
-    entry(Reason::TooLong, sys::AVSPLUS_TOO_LONG, "TOO LONG", "there are more bytes than the limit"),
-    entry(Reason::PayloadOut, sys::AVSPLUS_PAYLOAD_OUT, "PAYLOAD OUT", "a bit is wanted and none is left"),
-    entry(Reason::BadState, sys::AVSPLUS_BAD_STATE, "BAD STATE", "a bin state or context is outside its ranges"),
-    entry(Reason::NoRow, sys::AVSPLUS_NO_ROW, "NO ROW", "there is no such unit or group"),
-];
-
-impl Reason {
+impl ListedRefusal {
     /// The library's refusals, in the order of their numbers.
-    pub fn all() -> impl ExactSizeIterator<Item = Reason> + DoubleEndedIterator {
-        TABLE.iter().map(|entry| entry.reason)
+    pub fn all() -> impl ExactSizeIterator<Item = ListedRefusal> + DoubleEndedIterator {
+        TABLE.iter().map(|entry| entry.listed)
     }
 
     /// The refusal with a number.
     ///
     /// ```
-    /// use avsplus::Reason;
+    /// use avsplus::ListedRefusal;
     ///
-    /// assert_eq!(Reason::from_number(5), Some(Reason::OutOfPlace));
-    /// assert_eq!(Reason::from_number(0), None);
+    /// assert_eq!(ListedRefusal::from_number(25).unwrap().name, "VALUE of rate");
+    /// assert_eq!(ListedRefusal::from_number(0), None);
     /// ```
-    pub fn from_number(number: u32) -> Option<Reason> {
-        TABLE.iter().find(|entry| entry.number == number).map(|entry| entry.reason)
+    pub fn from_number(number: u32) -> Option<ListedRefusal> {
+        ListedRefusal::all().find(|listed| listed.number == number)
+    }
+}
+
+/// A reason but for the bit that it carries.
+#[derive(Debug, Clone, Copy, PartialEq, Eq)]
+enum Form {
+    /// One that carries none.
+    Plain(Reason),
+    Marker,
+    ValueOf(JudgedField),
+}
+
+impl Form {
+    fn of(reason: Reason) -> Form {
+        match reason {
+            Reason::Marker { .. } => Form::Marker,
+            Reason::ValueOf { field, .. } => Form::ValueOf(field),
+            plain => Form::Plain(plain),
+        }
+    }
+
+    /// The reason: none where a bit is there that it does not carry, or is not there that it does.
+    fn with(self, bit: Option<usize>) -> Option<Reason> {
+        match (self, bit) {
+            (Form::Plain(reason), None) => Some(reason),
+            (Form::Marker, Some(bit)) => Some(Reason::Marker { bit }),
+            (Form::ValueOf(field), Some(bit)) => Some(Reason::ValueOf { field, bit }),
+            _ => None,
+        }
+    }
+}
+
+/// A refusal of the library.
+struct Entry {
+    form: Form,
+    listed: ListedRefusal,
+}
+
+const fn entry(form: Form, number: u32, name: &'static str, meaning: &'static str) -> Entry {
+    let listed = ListedRefusal { number, name, meaning };
+    Entry { form, listed }
+}
+
+const fn plain(reason: Reason, number: u32, name: &'static str, meaning: &'static str) -> Entry {
+    entry(Form::Plain(reason), number, name, meaning)
+}
+
+const fn value_of(field: JudgedField, number: u32, name: &'static str, meaning: &'static str) -> Entry {
+    entry(Form::ValueOf(field), number, name, meaning)
+}
+
+/// What the names of a field's refusal begin with.
+const VALUE_OF: &str = "VALUE of ";
+
+/// The refusals in the order of their numbers: what each is called, and what it means in a few words for a person.
+#[rustfmt::skip]
+const TABLE: [Entry; 29] = [
+    plain(Reason::NoCode, sys::AVSPLUS_NO_CODE, "NO CODE", "the stream does not begin with 00 00 01"),
+    plain(Reason::Cut, sys::AVSPLUS_CUT, "CUT", "a start code prefix has no code byte after it"),
+    plain(Reason::Overlap, sys::AVSPLUS_OVERLAP, "OVERLAP", "code byte 00 is followed by 00 01"),
+    plain(Reason::Unknown, sys::AVSPLUS_UNKNOWN, "UNKNOWN", "the code byte names no unit"),
+    plain(Reason::OutOfPlace, sys::AVSPLUS_OUT_OF_PLACE, "OUT OF PLACE", "no such unit may stand here"),
+    plain(Reason::Short, sys::AVSPLUS_SHORT, "SHORT", "the body has too few bytes, or none but 00"),
+    entry(Form::Marker, sys::AVSPLUS_MARKER, "MARKER", "a marker bit is 0"),
+    plain(Reason::Value, sys::AVSPLUS_VALUE, "VALUE", "32 zeros or more stand before an Exp-Golomb number's 1"),
+    plain(Reason::Stuffing, sys::AVSPLUS_STUFFING, "STUFFING", "the body's end is not as required"),
+    plain(Reason::Twice, sys::AVSPLUS_TWICE, "TWICE", "a second display extension follows one sequence header"),
+    plain(Reason::Unended, sys::AVSPLUS_UNENDED, "UNENDED", "the stream stops before it is complete"),
+    plain(Reason::Full, sys::AVSPLUS_FULL, "FULL", "the room lent is too small"),
+    plain(Reason::TooLong, sys::AVSPLUS_TOO_LONG, "TOO LONG", "there are more bytes than the limit"),
+    plain(Reason::PayloadOut, sys::AVSPLUS_PAYLOAD_OUT, "PAYLOAD OUT", "a bit is wanted and none is left"),
+    plain(Reason::BadState, sys::AVSPLUS_BAD_STATE, "BAD STATE", "a bin state or context is outside its ranges"),
+    plain(Reason::NoRow, sys::AVSPLUS_NO_ROW, "NO ROW", "there is no such unit or group"),
+    value_of(JudgedField::Width, sys::AVSPLUS_VALUE_WIDTH, "VALUE of width", "the horizontal size is 0"),
+    value_of(JudgedField::Height, sys::AVSPLUS_VALUE_HEIGHT, "VALUE of height", "the vertical size is 0"),
+    value_of(JudgedField::Chroma, sys::AVSPLUS_VALUE_CHROMA, "VALUE of chroma", "the chroma format is neither 1 nor 2"),
+    value_of(JudgedField::Precision, sys::AVSPLUS_VALUE_PRECISION, "VALUE of precision", "the precision is not 1"),
+    value_of(JudgedField::Aspect, sys::AVSPLUS_VALUE_ASPECT, "VALUE of aspect", "the aspect is not 1 to 4"),
+    value_of(JudgedField::Rate, sys::AVSPLUS_VALUE_RATE, "VALUE of rate", "the frame rate code is not 1 to 8"),
+    value_of(JudgedField::Transfer, sys::AVSPLUS_VALUE_TRANSFER, "VALUE of transfer", "the transfer is 0, 3 or above 10"),
+    value_of(JudgedField::Matrix, sys::AVSPLUS_VALUE_MATRIX, "VALUE of matrix", "the matrix is 0, 3 or above 7"),
+    value_of(JudgedField::Stereo, sys::AVSPLUS_VALUE_STEREO, "VALUE of stereo", "stereo is 3"),
+    value_of(JudgedField::CopyrightOwner, sys::AVSPLUS_VALUE_COPYRIGHT_OWNER, "VALUE of copyright owner", "the flag is 0 and the owner is not"),
+    value_of(JudgedField::CopyrightNumber, sys::AVSPLUS_VALUE_COPYRIGHT_NUMBER, "VALUE of copyright number", "the owner is 0 and the number is not"),
+    value_of(JudgedField::SliceOrder, sys::AVSPLUS_VALUE_SLICE_ORDER, "VALUE of slice order", "the code byte is not above that of the slice before"),
+    value_of(JudgedField::SliceRow, sys::AVSPLUS_VALUE_SLICE_ROW, "VALUE of slice row", "the code byte is not below the macroblock rows"),
+];
+
+fn entry_of(form: Form) -> Option<&'static Entry> {
+    TABLE.iter().find(|entry| entry.form == form)
+}
+
+impl Reason {
+    /// As it is listed. A status that is not known, a library of another interface, and an answer of no form are not.
+    pub fn listed(self) -> Option<ListedRefusal> {
+        entry_of(Form::of(self)).map(|entry| entry.listed)
     }
 
     /// Its number: the status that the library answers with. A library of another interface, and an answer of no form, have
@@ -110,16 +241,16 @@ impl Reason {
     pub fn number(self) -> Option<u32> {
         match self {
             Reason::Unlisted(status) => Some(status),
-            _ => self.entry().map(|entry| entry.number),
+            _ => self.listed().map(|listed| listed.number),
         }
     }
 
-    /// Its name, such as "OUT OF PLACE".
+    /// Its name, such as "OUT OF PLACE" or "VALUE of rate".
     pub fn name(self) -> &'static str {
         match self {
             Reason::Unlisted(_) => "UNLISTED",
             Reason::OtherInterface(_) => "OTHER INTERFACE",
-            _ => self.entry().map_or("MALFORMED", |entry| entry.name),
+            _ => self.listed().map_or("MALFORMED", |listed| listed.name),
         }
     }
 
@@ -129,13 +260,34 @@ impl Reason {
             Reason::Unlisted(_) => "the library answers with a status that is not known here",
             Reason::OtherInterface(_) => "the library has another interface than this program",
             _ => self
-                .entry()
-                .map_or("the library's answer has no known form", |entry| entry.meaning),
+                .listed()
+                .map_or("the library's answer has no known form", |listed| listed.meaning),
         }
     }
 
-    fn entry(self) -> Option<&'static Entry> {
-        TABLE.iter().find(|entry| entry.reason == self)
+    /// The bit of the body that it carries, counted from 0: that of MARKER and of VALUE of a field.
+    pub fn bit(self) -> Option<usize> {
+        match self {
+            Reason::Marker { bit } | Reason::ValueOf { bit, .. } => Some(bit),
+            _ => None,
+        }
+    }
+
+    /// What the value is of that is ruled out.
+    pub fn field(self) -> Option<JudgedField> {
+        match self {
+            Reason::ValueOf { field, .. } => Some(field),
+            _ => None,
+        }
+    }
+
+    /// Of a status that is not done, and of the bit beside it. Where these do not go together the answer is of no form.
+    fn of(status: u32, bit: Option<usize>) -> Reason {
+        match (TABLE.iter().find(|entry| entry.listed.number == status), bit) {
+            (Some(entry), _) => entry.form.with(bit).unwrap_or(Reason::Malformed),
+            (None, None) => Reason::Unlisted(status),
+            (None, Some(_)) => Reason::Malformed,
+        }
     }
 }
 
@@ -154,7 +306,7 @@ impl fmt::Display for Reason {
 #[derive(Debug, Clone, Copy, PartialEq, Eq, Hash)]
 #[non_exhaustive]
 pub struct Refused {
-    /// The reason.
+    /// The reason; of MARKER and of VALUE of a field with the bit of the body.
     pub reason: Reason,
     /// Of a refused stream the offset of the refused unit's start code; 0 for NO CODE, FULL and TOO LONG, the stream's length
     /// for UNENDED. NO ROW, and refusals of single bodies and of payloads, have none.
@@ -170,35 +322,52 @@ impl From<Reason> for Refused {
 }
 
 impl fmt::Display for Refused {
+    /// The reason, and where: `VALUE of rate (25) at byte 0, bit 54 of the body`.
     fn fmt(&self, f: &mut fmt::Formatter<'_>) -> fmt::Result {
-        match self.offset {
-            Some(offset) => f.pad(&format!("{} at byte {}", self.reason, offset)),
-            None => self.reason.fmt(f),
+        let reason = self.reason;
+        match (self.offset, reason.bit()) {
+            (Some(offset), Some(bit)) => f.pad(&format!("{} at byte {}, bit {} of the body", reason, offset, bit)),
+            (Some(offset), None) => f.pad(&format!("{} at byte {}", reason, offset)),
+            (None, Some(bit)) => f.pad(&format!("{} at bit {} of the body", reason, bit)),
+            (None, None) => reason.fmt(f),
         }
     }
 }
 
 impl Error for Refused {}
 
-/// A status as a result.
-pub(crate) fn done(status: u32) -> Result<(), Refused> {
-    match status {
-        sys::AVSPLUS_DONE => Ok(()),
-        _ => Err(Reason::from_number(status).unwrap_or(Reason::Unlisted(status)).into()),
+/// A status, and the bit where there is one, as a result.
+fn status_and_bit(status: u32, bit: Option<usize>) -> Result<(), Refused> {
+    match (status, bit) {
+        (sys::AVSPLUS_DONE, None) => Ok(()),
+        _ => Err(Reason::of(status, bit).into()),
     }
 }
 
-/// An answer about a stream as a result: its count, or its refusal with the offset. NO ROW has none, and whether a status that is
-/// not known has one is not known.
+/// A status that comes with no bit as a result.
+pub(crate) fn done(status: u32) -> Result<(), Refused> {
+    status_and_bit(status, None)
+}
+
+/// An answer as a result: its count, or its refusal without an offset.
+pub(crate) fn answered(answer: sys::Answer) -> Result<usize, Refused> {
+    let bit = match answer.bit {
+        sys::AVSPLUS_NO_BIT => None,
+        bit => Some(bit),
+    };
+    status_and_bit(answer.status, bit).map(|()| answer.count)
+}
+
+/// An answer about a stream as a result: its count, or its refusal with the offset. NO ROW has none, and of a status that is not
+/// known and of an answer of no form it is not known.
 pub(crate) fn of_stream(answer: sys::Answer) -> Result<usize, Refused> {
-    match done(answer.status) {
-        Ok(()) => Ok(answer.count),
-        Err(refused) if matches!(refused.reason, Reason::NoRow | Reason::Unlisted(_)) => Err(refused),
-        Err(Refused { reason, .. }) => Err(Refused {
+    answered(answer).map_err(|refused| match refused.reason {
+        Reason::NoRow | Reason::Unlisted(_) | Reason::Malformed => refused,
+        reason => Refused {
             reason,
             offset: Some(answer.offset),
-        }),
-    }
+        },
+    })
 }
 
 /// Whether the library's version is the one that this crate was written for.
@@ -213,6 +382,14 @@ pub(crate) fn same_interface(version: u32) -> Result<(), Refused> {
 mod tests {
     use super::*;
 
+    /// Every refusal as the library answers with it: with a bit where it carries one.
+    fn all() -> Vec<Reason> {
+        let bit = |number| if number == 7 || number >= 20 { Some(5) } else { None };
+        ListedRefusal::all()
+            .map(|listed| Reason::of(listed.number, bit(listed.number)))
+            .collect()
+    }
+
     #[test]
     fn numbers_and_names_of_the_reasons() {
         let expected = [
@@ -222,7 +399,7 @@ mod tests {
             (Reason::Unknown, 4, "UNKNOWN"),
             (Reason::OutOfPlace, 5, "OUT OF PLACE"),
             (Reason::Short, 6, "SHORT"),
-            (Reason::Marker, 7, "MARKER"),
+            (Reason::Marker { bit: 5 }, 7, "MARKER"),
             (Reason::Value, 8, "VALUE"),
             (Reason::Stuffing, 9, "STUFFING"),
             (Reason::Twice, 10, "TWICE"),
@@ -233,22 +410,84 @@ mod tests {
             (Reason::BadState, 15, "BAD STATE"),
             (Reason::NoRow, 16, "NO ROW"),
         ];
-        let found = Reason::all().map(|reason| (reason, reason.number().unwrap(), reason.name()));
-        assert_eq!(found.collect::<Vec<_>>(), expected);
-        for (reason, number, _) in expected {
-            assert_eq!(Reason::from_number(number), Some(reason));
+        let all = all();
+        for (reason, (expected, number, name)) in all.iter().zip(expected) {
+            assert_eq!(
+                (*reason, reason.number(), reason.name(), reason.field()),
+                (expected, Some(number), name, None)
+            );
         }
-        assert_eq!((Reason::from_number(0), Reason::from_number(17)), (None, None));
+        assert_eq!(all.len(), 29);
+        for (reason, listed) in all.iter().zip(ListedRefusal::all()) {
+            assert_eq!(reason.listed(), Some(listed));
+            assert_eq!(ListedRefusal::from_number(listed.number), Some(listed));
+        }
+        for number in [0, 17, 19, 33] {
+            assert_eq!(ListedRefusal::from_number(number), None);
+        }
+    }
+
+    #[test]
+    fn fields_and_their_numbers() {
+        let expected = [
+            (JudgedField::Width, "width"),
+            (JudgedField::Height, "height"),
+            (JudgedField::Chroma, "chroma"),
+            (JudgedField::Precision, "precision"),
+            (JudgedField::Aspect, "aspect"),
+            (JudgedField::Rate, "rate"),
+            (JudgedField::Transfer, "transfer"),
+            (JudgedField::Matrix, "matrix"),
+            (JudgedField::Stereo, "stereo"),
+            (JudgedField::CopyrightOwner, "copyright owner"),
+            (JudgedField::CopyrightNumber, "copyright number"),
+            (JudgedField::SliceOrder, "slice order"),
+            (JudgedField::SliceRow, "slice row"),
+        ];
+        for (number, (field, name)) in (20..=32).zip(expected) {
+            let reason = Reason::ValueOf { field, bit: 5 };
+            assert_eq!((Reason::of(number, Some(5)), reason.number()), (reason, Some(number)));
+            assert_eq!((field.name(), reason.field(), reason.bit()), (name, Some(field), Some(5)));
+            assert_eq!(reason.name(), format!("VALUE of {}", name));
+        }
+    }
+
+    /// An answer that is no count.
+    fn answer(status: u32, offset: usize, bit: usize) -> sys::Answer {
+        sys::Answer {
+            status,
+            offset,
+            count: 0,
+            bit,
+        }
+    }
+
+    /// Status by status: one of a bit and its lack is an answer, the other has no form. A status that is not known has no bit.
+    #[test]
+    fn status_and_bit_go_together() {
+        for status in 0..40 {
+            let carries = status == 7 || (20..=32).contains(&status);
+            for bit in [0, 54, usize::MAX - 1, sys::AVSPLUS_NO_BIT] {
+                let fits = carries == (bit != sys::AVSPLUS_NO_BIT);
+                for read in [answered, of_stream] {
+                    let malformed = read(answer(status, 0, bit)) == Err(Reason::Malformed.into());
+                    assert_eq!(malformed, !fits, "{} {}", status, bit);
+                }
+            }
+            // Numbers and bins come with a status alone.
+            assert_eq!(done(status) == Err(Reason::Malformed.into()), carries);
+        }
+        assert_eq!(answered(answer(0, 0, sys::AVSPLUS_NO_BIT)), Ok(0));
     }
 
     #[test]
     fn a_status_that_is_not_known_is_an_error() {
         assert_eq!((done(0), done(16)), (Ok(()), Err(Reason::NoRow.into())));
-        for status in [17, 20, u32::MAX] {
+        for status in [17, 19, 33, u32::MAX] {
             let refused = done(status).unwrap_err();
             assert_eq!(
-                (refused.reason, refused.reason.number()),
-                (Reason::Unlisted(status), Some(status))
+                (refused.reason, refused.reason.number(), refused.reason.listed()),
+                (Reason::Unlisted(status), Some(status), None)
             );
         }
         assert_eq!(done(17).unwrap_err().to_string(), "UNLISTED (17)");
@@ -259,26 +498,27 @@ mod tests {
         assert_eq!(same_interface(sys::AVSPLUS_VERSION), Ok(()));
         let refused = same_interface(sys::AVSPLUS_VERSION + 1).unwrap_err();
         assert_eq!(
-            (refused.reason, refused.reason.number()),
-            (Reason::OtherInterface(sys::AVSPLUS_VERSION + 1), None)
+            (refused.reason, refused.reason.number(), refused.reason.listed()),
+            (Reason::OtherInterface(sys::AVSPLUS_VERSION + 1), None, None)
         );
-        assert_eq!(refused.to_string(), "OTHER INTERFACE (version 2)");
+        assert_eq!(refused.to_string(), "OTHER INTERFACE (version 3)");
     }
 
     #[test]
-    fn refusals_are_shown_with_number_and_offset() {
-        let answer = |status, offset| sys::Answer {
-            status,
-            offset,
-            count: 0,
-        };
-        assert_eq!(of_stream(answer(8, 24)).unwrap_err().to_string(), "VALUE (8) at byte 24");
-        assert_eq!(of_stream(answer(16, 0)).unwrap_err().to_string(), "NO ROW (16)");
-        assert_eq!(of_stream(answer(17, 0)).unwrap_err().to_string(), "UNLISTED (17)");
+    fn refusals_are_shown_with_number_offset_and_bit() {
+        let shown = |answer| of_stream(answer).unwrap_err().to_string();
+        let none = sys::AVSPLUS_NO_BIT;
+        assert_eq!(shown(answer(25, 0, 54)), "VALUE of rate (25) at byte 0, bit 54 of the body");
+        assert_eq!(shown(answer(7, 19, 23)), "MARKER (7) at byte 19, bit 23 of the body");
+        assert_eq!(shown(answer(2, 29, none)), "CUT (2) at byte 29");
+        assert_eq!(shown(answer(16, 0, none)), "NO ROW (16)");
+        assert_eq!(shown(answer(17, 0, none)), "UNLISTED (17)");
+        assert_eq!(shown(answer(2, 29, 0)), "MALFORMED");
+        let of_body = answered(answer(25, 0, 54)).unwrap_err();
+        assert_eq!(of_body.to_string(), "VALUE of rate (25) at bit 54 of the body");
         assert_eq!(
-            format!("{:>12}|{:<8}|", Reason::Cut, Reason::Malformed),
-            "     CUT (2)|MALFORMED|"
+            format!("{:>12}|{:<8}|{:<6}|", Reason::Cut, Reason::Malformed, JudgedField::Rate),
+            "     CUT (2)|MALFORMED|rate  |"
         );
-        assert_eq!(of_stream(answer(0, 0)), Ok(0));
     }
 }

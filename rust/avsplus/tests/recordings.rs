@@ -1,8 +1,8 @@
 //! Recordings of several groups, and what a refusal leaves as it was.
 
 use avsplus::{
-    check, file, file_into, group, next_start_code, row_body, row_exists, Colour, Context, Extension, Kind, Payload, Reason,
-    Scope, State, Unit,
+    check, file, file_into, group, next_start_code, row_body, row_exists, Colour, Context, Extension, JudgedField, Kind,
+    Payload, Reason, Scope, State, Unit,
 };
 
 const HEADER: [u8; 15] = [
@@ -105,7 +105,40 @@ fn macroblock_rows_by_group() {
         [of_496_lines(true, 30), of_496_lines(false, 32)],
     ] {
         let refused = check(&stream(&groups)).unwrap_err();
-        assert_eq!((refused.reason, refused.offset), (Reason::Value, Some(53)));
+        let reason = Reason::ValueOf {
+            field: JudgedField::SliceRow,
+            bit: 0,
+        };
+        assert_eq!((refused.reason, refused.offset), (reason, Some(53)));
+    }
+}
+
+/// A refusal of a stream has the offset of the unit and the bit of its body; that of the body alone has the bit alone.
+#[test]
+fn refusals_with_their_bits() {
+    let extended = |body: &[u8]| [unit(0xB0, &HEADER), unit(0xB5, body), picture(0xB3, &[]), unit(0xB1, &[])].concat();
+    let sliced = |a, b| [unit(0xB0, &HEADER), unit(0xB3, &[0x80]), unit(a, &[0x80]), unit(b, &[0x80])].concat();
+    let mut unmarked = DISPLAY;
+    unmarked[2] &= !0x01;
+    let mut stereo = DISPLAY_WITH_COLOUR;
+    stereo[7] |= 0x03;
+    for (stream, shown) in [
+        (extended(&unmarked), "MARKER (7) at byte 19, bit 23 of the body"),
+        (extended(&stereo), "VALUE of stereo (28) at byte 19, bit 62 of the body"),
+        (sliced(5, 5), "VALUE of slice order (31) at byte 29, bit 0 of the body"),
+        (sliced(0x44, 0x43), "VALUE of slice row (32) at byte 24, bit 0 of the body"),
+        (sliced(0x43, 0x44), "VALUE of slice row (32) at byte 29, bit 0 of the body"),
+    ] {
+        let refused = file(&stream).unwrap_err();
+        assert_eq!(refused.to_string(), shown);
+        assert_eq!((check(&stream), group(&stream, 0)), (Err(refused), Err(refused)));
+    }
+    for (body, shown) in [
+        (&unmarked[..], "MARKER (7) at bit 23 of the body"),
+        (&stereo, "VALUE of stereo (28) at bit 62 of the body"),
+    ] {
+        let refused = avsplus::extension(body, Scope::Head).unwrap_err();
+        assert_eq!((refused.to_string().as_str(), refused.offset), (shown, None));
     }
 }
 
