@@ -202,7 +202,7 @@ const TABLE: [Entry; 29] = [
     plain(Reason::OutOfPlace, sys::AVSPLUS_OUT_OF_PLACE, "OUT OF PLACE", "no such unit may stand here"),
     plain(Reason::Short, sys::AVSPLUS_SHORT, "SHORT", "the body has too few bytes, or none but 00"),
     entry(Form::Marker, sys::AVSPLUS_MARKER, "MARKER", "a marker bit is 0"),
-    plain(Reason::Value, sys::AVSPLUS_VALUE, "VALUE", "32 zeros or more stand before an Exp-Golomb number's 1"),
+    plain(Reason::Value, sys::AVSPLUS_VALUE, "VALUE", "an Exp-Golomb number begins with 32 zeros or more"),
     plain(Reason::Stuffing, sys::AVSPLUS_STUFFING, "STUFFING", "the body's end is not as required"),
     plain(Reason::Twice, sys::AVSPLUS_TWICE, "TWICE", "a second display extension follows one sequence header"),
     plain(Reason::Unended, sys::AVSPLUS_UNENDED, "UNENDED", "the stream stops before it is complete"),
