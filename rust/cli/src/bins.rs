@@ -118,7 +118,7 @@ fn refusal_at_end(given: &Given, bins: &Bins) -> Result<Option<Refusal>, Failure
         Some(refused) => refusal_of(refused)?,
         None => return Ok(None),
     };
-    if refusal.reason != Reason::PayloadOut {
+    if refusal.reason() != Reason::PayloadOut {
         return Ok(Some(refusal));
     }
     let begun = match bins.state {

@@ -74,45 +74,42 @@ impl From<io::Error> for Failure {
 impl From<Refused> for Failure {
     /// What is no refusal says that program and library do not fit: that is no answer about the recording.
     fn from(refused: Refused) -> Failure {
-        match Reason::all().any(|reason| reason == refused.reason) {
-            true => Failure::Refused(refused.into()),
-            false => Failure::Trouble(format!("{}: {}", refused, refused.reason.meaning())),
+        match refused.reason.listed() {
+            Some(_) => Failure::Refused(refused.into()),
+            None => Failure::Trouble(format!("{}: {}", refused, refused.reason.meaning())),
         }
     }
 }
 
-/// Where a refusal stands.
-#[derive(Debug, Clone, Copy, PartialEq, Eq)]
-pub enum Site {
-    /// At a byte of the recording.
-    Byte(usize),
-    /// At a bit of the payload.
-    Bit(usize),
-}
-
-/// A refusal of the library, where it stands, and what it means here.
+/// A refusal of the library, and what it means here.
 #[derive(Debug, Clone, PartialEq, Eq)]
 pub struct Refusal {
-    pub reason: Reason,
-    pub site: Option<Site>,
+    /// The library's own, with the byte of the recording and the bit of the body where it stands.
+    pub refused: Refused,
+    /// The bit of the payload where it stands, if it is one of a payload.
+    pub place: Option<usize>,
     pub meaning: String,
 }
 
 impl From<Refused> for Refusal {
     fn from(refused: Refused) -> Refusal {
         Refusal {
-            reason: refused.reason,
-            site: refused.offset.map(Site::Byte),
+            refused,
+            place: None,
             meaning: refused.reason.meaning().to_string(),
         }
     }
 }
 
 impl Refusal {
+    pub fn reason(&self) -> Reason {
+        self.refused.reason
+    }
+
     /// The same at a bit of the payload.
     pub fn at_bit(self, place: usize) -> Refusal {
         Refusal {
-            site: Some(Site::Bit(place)),
+            place: Some(place),
             ..self
         }
     }
@@ -124,10 +121,9 @@ impl Refusal {
 
     /// Name, number, and where.
     pub fn answer(&self) -> String {
-        match self.site {
-            Some(Site::Byte(offset)) => format!("{} at byte {}", self.reason, offset),
-            Some(Site::Bit(place)) => format!("{} at bit {}", self.reason, place),
-            None => self.reason.to_string(),
+        match self.place {
+            Some(place) => format!("{} at bit {}", self.reason(), place),
+            None => self.refused.to_string(),
         }
     }
 
@@ -139,6 +135,8 @@ impl Refusal {
 
 #[cfg(test)]
 mod tests {
+    use avsplus::JudgedField;
+
     use super::*;
 
     #[test]
@@ -150,12 +148,30 @@ mod tests {
                 reason
             );
         }
-        for reason in Reason::all() {
+        let field = JudgedField::Rate;
+        for reason in [
+            Reason::NoCode,
+            Reason::Marker { bit: 76 },
+            Reason::Value,
+            Reason::ValueOf { field, bit: 54 },
+        ] {
             assert!(
                 matches!(Failure::from(Refused::from(reason)), Failure::Refused(_)),
                 "{:?}",
                 reason
             );
         }
+    }
+
+    #[test]
+    fn a_refusal_says_where_it_stands() {
+        let field = JudgedField::Rate;
+        let of_body = Refusal::from(Refused::from(Reason::ValueOf { field, bit: 54 }));
+        assert_eq!(
+            of_body.in_words(),
+            "VALUE of rate (25) at bit 54 of the body: the frame rate code is not 1 to 8"
+        );
+        let of_payload = Refusal::from(Refused::from(Reason::PayloadOut)).at_bit(9);
+        assert_eq!(of_payload.answer(), "PAYLOAD OUT (14) at bit 9");
     }
 }

@@ -90,7 +90,7 @@ fn refusal_at_end(given: &Given, numbers: &Numbers) -> Result<Option<Refusal>, F
         None => return Ok(None),
     };
     let refusal = refusal_of(refused)?.at_bit(numbers.place);
-    if refusal.reason != Reason::PayloadOut {
+    if refusal.reason() != Reason::PayloadOut {
         return Ok(Some(refusal));
     }
     let all_read = numbers.wanted.is_none() && numbers.found > 0 && numbers.place == given.bits();

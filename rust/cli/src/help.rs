@@ -57,7 +57,8 @@ fields of its sequence header, of its display extension and of its copyright
 extensions. Each field has its first bit in the body and its width beside it; what is
 worked out from fields says so and how. What the stream does not have is not given. Of
 a refused recording the sheet has the answer, its reason, how many bytes there are, and
-the bytes where the refusal stands.
+the bytes where the refusal stands. MARKER and VALUE of a field say the bit of the body,
+and the sheet which byte that is in.
 
 Usage: avsplus file REC [--json]
 
@@ -190,7 +191,9 @@ read or written.
 
 /// Before the table of refusals.
 pub const REFUSALS: &str = "\
-The refusals: number, name, and what each means. docs/RULES.md of the project says of
-each exactly when it is given, and what to look at in the recording.
+The refusals: number, name, and what each means. MARKER and VALUE of a field, 20 to 32,
+are told with the bit of the body: the marker, or the field's first bit, and 0 for a
+slice, which is refused for its code byte. docs/RULES.md of the project says of each
+refusal exactly when it is given, and what to look at in the recording.
 
 ";

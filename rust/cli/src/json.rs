@@ -4,7 +4,7 @@ use std::io::{self, Write};
 
 use avsplus::fields::Field;
 
-use crate::failure::{Failure, Refusal, Site, Written};
+use crate::failure::{Failure, Refusal, Written};
 
 /// A value that is no object and no list.
 #[derive(Debug, Clone)]
@@ -122,14 +122,22 @@ impl Object<'_> {
         }
     }
 
-    /// The members that name a refusal and say where it stands.
+    /// The members that name a refusal and say where it stands; what it does not carry is no member.
     pub fn refused(&mut self, refusal: &Refusal) -> Written {
-        self.put("answer", refusal.reason.name())?;
-        self.put("number", refusal.reason.number())?;
-        match refusal.site {
-            Some(Site::Byte(offset)) => self.put("offset", offset)?,
-            Some(Site::Bit(place)) => self.put("place", place)?,
-            None => {}
+        let reason = refusal.reason();
+        self.put("answer", reason.name())?;
+        self.put("number", reason.number())?;
+        if let Some(field) = reason.field() {
+            self.put("field", field.name())?;
+        }
+        for (name, place) in [
+            ("offset", refusal.refused.offset),
+            ("bit", reason.bit()),
+            ("place", refusal.place),
+        ] {
+            if let Some(place) = place {
+                self.put(name, place)?;
+            }
         }
         self.put("meaning", refusal.meaning.as_str())
     }

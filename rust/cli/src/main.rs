@@ -21,7 +21,7 @@ use std::ffi::{OsStr, OsString};
 use std::io::{self, Write};
 use std::process::ExitCode;
 
-use avsplus::{Reason, Refused};
+use avsplus::{ListedRefusal, Reason, Refused};
 
 use args::{Args, Shape};
 use failure::{Failure, Status};
@@ -248,9 +248,10 @@ fn help_on(command: &Command, output: &mut dyn Write) -> Result<Status, Failure>
 /// The table of refusals.
 fn write_refusals(output: &mut dyn Write) -> io::Result<()> {
     output.write_all(help::REFUSALS.as_bytes())?;
-    for reason in Reason::all() {
-        let number = reason.number().map_or(String::new(), |number| number.to_string());
-        writeln!(output, "  {:>2}  {:<12}  {}", number, reason.name(), reason.meaning())?;
+    let width = ListedRefusal::all().map(|listed| listed.name.len()).max().unwrap_or(0);
+    for listed in ListedRefusal::all() {
+        let (number, name) = (listed.number, listed.name);
+        writeln!(output, "  {:>2}  {:<width$}  {}", number, name, listed.meaning, width = width)?;
     }
     Ok(())
 }

@@ -146,7 +146,7 @@ pub fn refusal_of(refused: Refused) -> Result<Refusal, Failure> {
         Failure::Refused(refusal) => refusal,
         other => return Err(other),
     };
-    let meaning = match refusal.reason {
+    let meaning = match refusal.reason() {
         Reason::TooLong => format!("{} of {} for a payload", refusal.meaning, avsplus::LONGEST_PAYLOAD),
         Reason::Value => "32 zeros stand here, and no number begins with so many".to_string(),
         _ => return Ok(refusal),

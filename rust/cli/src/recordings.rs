@@ -2,18 +2,20 @@
 
 use std::io::Write;
 
-use avsplus::{Reason, Recording, Refused};
+use avsplus::{JudgedField, Reason, Recording, Refused};
 
 use crate::args::Args;
-use crate::failure::{Failure, Refusal, Site, Status, Written};
+use crate::failure::{Failure, Refusal, Status, Written};
 use crate::files::read_stream;
-use crate::json::{self, write_hex};
+use crate::json::{self, write_hex, Object};
 use crate::sheet::{group_json, group_text, unit_json, units_text};
 
 /// The answer to a good recording.
 const FILED: &str = "FILED";
 /// How many bytes of a refused recording are shown at most, from where the refusal stands on.
 const SHOWN: usize = 16;
+/// Bytes of a unit before its body: 00 00 01 and the code byte.
+const BEFORE_BODY: usize = 4;
 
 /// Files a recording, whose refusal says what it means for this one.
 pub fn file_stream(stream: &[u8]) -> Result<Recording<'_>, Failure> {
@@ -24,7 +26,7 @@ pub fn file_stream(stream: &[u8]) -> Result<Recording<'_>, Failure> {
 }
 
 fn meaning_for(stream: &[u8], refusal: Refusal) -> Refusal {
-    let meaning = match (refusal.reason, stream) {
+    let meaning = match (refusal.reason(), stream) {
         (Reason::NoCode, []) => "there are no bytes".to_string(),
         (Reason::NoCode, bytes) => format!("it begins with {}, not with 00 00 01", spaced(&bytes[..bytes.len().min(3)])),
         (Reason::TooLong, _) => format!("{} of {}", refusal.meaning, avsplus::LONGEST_STREAM),
@@ -79,18 +81,54 @@ fn sheet_text(output: &mut dyn Write, recording: &Recording<'_>) -> Written {
 
 /// The bytes where a refusal stands. TOO LONG is about their number alone.
 fn bytes_there<'a>(stream: &'a [u8], refusal: &Refusal) -> &'a [u8] {
-    let there = match (refusal.reason, refusal.site) {
-        (Reason::TooLong, _) => &[],
-        (_, Some(Site::Byte(offset))) => stream.get(offset..).unwrap_or_default(),
-        _ => &[],
+    let there = match (refusal.reason(), refusal.refused.offset) {
+        (Reason::TooLong, _) | (_, None) => &[],
+        (_, Some(offset)) => stream.get(offset..).unwrap_or_default(),
     };
     &there[..there.len().min(SHOWN)]
+}
+
+/// The bit of a body that a refusal carries, and the byte of the recording that it lies in.
+struct Bit {
+    /// In the body.
+    bit: usize,
+    /// Of its byte, in the recording.
+    offset: usize,
+    /// What is in that byte.
+    byte: u8,
+}
+
+impl Bit {
+    /// None where the refusal carries no bit, and of a slice, which is refused for the code byte before its body.
+    fn of(stream: &[u8], refusal: &Refusal) -> Option<Bit> {
+        if let Some(JudgedField::SliceOrder | JudgedField::SliceRow) = refusal.reason().field() {
+            return None;
+        }
+        let bit = refusal.reason().bit()?;
+        let offset = refusal.refused.offset? + BEFORE_BODY + bit / 8;
+        let byte = *stream.get(offset)?;
+        Some(Bit { bit, offset, byte })
+    }
+
+    fn text(&self, output: &mut dyn Write) -> Written {
+        let value = 0x80_u8 >> (self.bit % 8);
+        Ok(writeln!(
+            output,
+            "bit: {} is that of value {:02X} in byte {}, which is {:02X}",
+            self.bit, value, self.offset, self.byte
+        )?)
+    }
+
+    fn json(&self, object: &mut Object) -> Written {
+        object.put("offset", self.offset)?;
+        object.hex("hex", &[self.byte])
+    }
 }
 
 /// The sheet of a refused recording is a result too, so it goes to standard output. Of a recording that is TOO LONG not all bytes
 /// were read, so how many it has is not known.
 fn refused_sheet(output: &mut dyn Write, stream: &[u8], refusal: &Refusal, json: bool) -> Result<Status, Failure> {
-    let there = bytes_there(stream, refusal);
+    let (there, bit) = (bytes_there(stream, refusal), Bit::of(stream, refusal));
     let length = if stream.len() > avsplus::LONGEST_STREAM {
         None
     } else {
@@ -100,7 +138,11 @@ fn refused_sheet(output: &mut dyn Write, stream: &[u8], refusal: &Refusal, json:
         json::line(output, |object| {
             object.refused(refusal)?;
             object.put("bytes", length)?;
-            object.hex("there", there)
+            object.hex("there", there)?;
+            match &bit {
+                Some(bit) => object.object("byte_of_bit", |o| bit.json(o)),
+                None => Ok(()),
+            }
         })?;
         return Ok(Status::Refused);
     }
@@ -111,6 +153,9 @@ fn refused_sheet(output: &mut dyn Write, stream: &[u8], refusal: &Refusal, json:
     }
     if !there.is_empty() {
         writeln!(output, "there: {}", spaced(there))?;
+    }
+    if let Some(bit) = bit {
+        bit.text(output)?;
     }
     Ok(Status::Refused)
 }

@@ -1,6 +1,8 @@
 //! What the program prints against the independent decoder, on generated recordings and payloads, good and damaged.
 
-use independent::generate::{bins_payload, damaged, payload, stream, Random};
+use std::collections::BTreeSet;
+
+use independent::generate::{bins_payload, damaged, judged_bodies, payload, stream, streams_with, Random, BITS};
 use independent::{Copyright, Display, Extension, Header};
 
 use crate::json_reader::Json;
@@ -154,11 +156,16 @@ fn same_sheet(stream: &[u8]) -> bool {
     let units = match independent::check(stream) {
         Ok(units) => units as usize,
         Err(refused) => {
-            assert_eq!(ran.status, 1);
+            assert_eq!(
+                (ran.status, Some(sheet.get("answer").text())),
+                (1, independent::name(refused.number))
+            );
             assert_eq!(
                 numbers(&sheet, &["number", "offset"]),
                 [i64::from(refused.number), refused.place as i64]
             );
+            let bit = sheet.names().contains(&"bit").then(|| sheet.get("bit").number());
+            assert_eq!(bit, refused.bit.map(|bit| bit as i64));
             return false;
         }
     };
@@ -182,6 +189,22 @@ fn sheets_of_generated_recordings() {
     let of_damaged = (0..RECORDINGS).filter(|_| same_sheet(&damaged(&mut random))).count();
     assert!(good as u64 > RECORDINGS / 2, "{} good", good);
     assert!((of_damaged as u64) < RECORDINGS / 2, "{} good of damaged ones", of_damaged);
+}
+
+/// Every bit that a body is refused at, once.
+#[test]
+fn sheets_of_refusals_with_each_bit() {
+    let mut met = BTreeSet::new();
+    for stream in judged_bodies(false).iter().flat_map(streams_with) {
+        let refused = independent::check(&stream).err();
+        let bit = refused.and_then(|refused| Some((refused.number, refused.bit?)));
+        if bit.map_or(false, |bit| met.insert(bit)) {
+            assert!(!same_sheet(&stream));
+        }
+    }
+    // All but the two of slices, whose bit is 0.
+    let of_bodies = BITS.iter().copied().filter(|(_, bit)| *bit > 0);
+    assert!(met.into_iter().eq(of_bodies));
 }
 
 /// The payload without its escape bits, and its bit count.

@@ -66,7 +66,8 @@ fn refusals_of_the_examples() {
         ),
         (
             &with_slice(0x44),
-            "answer: VALUE (8) at byte 24\nreason: a value is ruled out\nbytes: 33\nthere: 00 00 01 44 80 00 00 01 B1\n",
+            "answer: VALUE of slice row (32) at byte 24, bit 0 of the body\nreason: the code byte is not below the macroblock rows\n\
+             bytes: 33\nthere: 00 00 01 44 80 00 00 01 B1\n",
         ),
     ];
     for (stream, sheet) in refused {
@@ -74,6 +75,58 @@ fn refusals_of_the_examples() {
         assert_eq!((ran.status, ran.text(), ran.complaint.as_str()), (1, sheet, ""));
     }
     assert_eq!(avsplus_reading(&["file", "-"], &with_slice(0x43)).status, 0);
+}
+
+/// The first example with other bytes in its sequence header.
+fn with_header(change: fn(&mut [u8; 15])) -> Vec<u8> {
+    let mut header = HEADER;
+    change(&mut header);
+    [group(&header, &[]), unit(0xB1, &[])].concat()
+}
+
+/// Where a refusal carries a bit, the sheet has the byte that it is in.
+#[test]
+fn sheets_of_refusals_with_a_bit() {
+    let mut unmarked = DISPLAY;
+    unmarked[2] &= !0x01;
+    let extended = [group(&HEADER, &[unit(0xB5, &unmarked)]), unit(0xB1, &[])].concat();
+    for (stream, sheet) in [
+        (
+            with_header(|header| header[7] &= 0x3F),
+            "answer: VALUE of rate (25) at byte 0, bit 54 of the body\nreason: the frame rate code is not 1 to 8\nbytes: 33\n\
+             there: 00 00 01 B0 48 40 0F 00 21 C2 4C 04 E2 08 00 20\nbit: 54 is that of value 02 in byte 10, which is 4C\n",
+        ),
+        (
+            with_header(|header| header[11] &= !0x20),
+            "answer: MARKER (7) at byte 0, bit 90 of the body\nreason: a marker bit is 0\nbytes: 33\n\
+             there: 00 00 01 B0 48 40 0F 00 21 C2 4C C4 E2 08 00 00\nbit: 90 is that of value 20 in byte 15, which is 00\n",
+        ),
+        (
+            extended,
+            "answer: MARKER (7) at byte 19, bit 23 of the body\nreason: a marker bit is 0\nbytes: 43\n\
+             there: 00 00 01 B5 22 0F 00 10 E0 80 00 00 01 B3 80 00\nbit: 23 is that of value 01 in byte 25, which is 00\n",
+        ),
+    ] {
+        let ran = avsplus_reading(&["file", "-"], &stream);
+        assert_eq!((ran.status, ran.text(), ran.complaint.as_str()), (1, sheet, ""));
+    }
+}
+
+/// The other commands on recordings refuse in the same words, and so do those on payloads that take one of a recording's units.
+#[test]
+fn refusals_with_a_bit_in_words() {
+    let name = written("rate.avs", &with_header(|header| header[7] &= 0x3F));
+    for arguments in [
+        &["units", &name][..],
+        &["header", &name],
+        &["body", &name, "0"],
+        &["golomb", &name, "--unit", "1"],
+    ] {
+        let ran = avsplus(arguments);
+        assert_eq!((ran.status, ran.text()), (1, ""));
+        let words = "VALUE of rate (25) at byte 0, bit 54 of the body: the frame rate code is not 1 to 8";
+        assert_eq!(ran.complaint, format!("avsplus: {}\n", words));
+    }
 }
 
 /// Nothing is said of bytes that are not there.
@@ -173,7 +226,8 @@ fn macroblock_rows() {
         assert_eq!(rows.number(), i64::from(last) + 1);
         let refused = avsplus_reading(&["file", "-"], &of_496_lines(progressive, last + 1));
         let answer = refused.text().lines().next();
-        assert_eq!((refused.status, answer), (1, Some("answer: VALUE (8) at byte 24")));
+        let expected = "answer: VALUE of slice row (32) at byte 24, bit 0 of the body";
+        assert_eq!((refused.status, answer), (1, Some(expected)));
     }
 }
 
@@ -263,6 +317,46 @@ fn a_refusal_as_json() {
             "{\"answer\":\"UNENDED\",\"number\":11,\"offset\":29,\"meaning\":\"the stream stops before it is complete\"}\n"
         );
         assert_eq!((ran.status, ran.complaint.as_str()), (1, ""));
+    }
+}
+
+/// A bit, and the field that a value is of, where there are any; the sheet has the byte of the bit too.
+#[test]
+fn a_refusal_with_a_bit_as_json() {
+    let rate = written("json-rate.avs", &with_header(|header| header[7] &= 0x3F));
+    let refusal = "{\"answer\":\"VALUE of rate\",\"number\":25,\"field\":\"rate\",\"offset\":0,\"bit\":54,\
+                   \"meaning\":\"the frame rate code is not 1 to 8\"";
+    let ran = avsplus(&["units", &rate, "--json"]);
+    assert_eq!((ran.status, ran.text()), (1, format!("{}}}\n", refusal).as_str()));
+    let sheet = "\"bytes\":33,\"there\":\"000001b048400f0021c24c04e2080020\",\"byte_of_bit\":{\"offset\":10,\"hex\":\"4c\"}";
+    let ran = avsplus(&["file", &rate, "--json"]);
+    assert_eq!((ran.status, ran.text()), (1, format!("{},{}}}\n", refusal, sheet).as_str()));
+
+    let mut sliced = example_1();
+    sliced[27] = 0x44;
+    for (name, stream, members) in [
+        (
+            "marker",
+            with_header(|header| header[9] &= !0x08),
+            vec![
+                "answer",
+                "number",
+                "offset",
+                "bit",
+                "meaning",
+                "bytes",
+                "there",
+                "byte_of_bit",
+            ],
+        ),
+        (
+            "slice",
+            sliced,
+            vec!["answer", "number", "field", "offset", "bit", "meaning", "bytes", "there"],
+        ),
+    ] {
+        let name = written(&format!("json-{}.avs", name), &stream);
+        assert_eq!(avsplus(&["file", &name, "--json"]).json().names(), members);
     }
 }
 

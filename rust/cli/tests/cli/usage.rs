@@ -21,7 +21,7 @@ fn help_and_version() {
     let ran = avsplus(&["--version"]);
     assert_eq!(
         (ran.status, ran.text()),
-        (0, concat!("avsplus ", env!("CARGO_PKG_VERSION"), ", library interface 1\n"))
+        (0, concat!("avsplus ", env!("CARGO_PKG_VERSION"), ", library interface 2\n"))
     );
 }
 
@@ -36,11 +36,16 @@ fn help_is_a_command_too() {
     let ran = avsplus(&["help", "refusals"]);
     assert_eq!(
         (ran.status, ran.text().lines().filter(|line| line.starts_with("  ")).count()),
-        (0, 16)
+        (0, 29)
     );
-    assert!(ran
-        .text()
-        .contains("\n  14  PAYLOAD OUT   a bit is wanted and none is left\n"));
+    for line in [
+        "  14  PAYLOAD OUT                a bit is wanted and none is left",
+        "  25  VALUE of rate              the frame rate code is not 1 to 8",
+        "  30  VALUE of copyright number  the owner is 0 and the number is not",
+    ] {
+        assert!(ran.text().lines().any(|found| found == line), "{}", line);
+    }
+    assert!(ran.text().lines().all(|line| line.len() <= 90));
     for topic in [&["--help"][..], &["-h"], &["help"], &["--json"]] {
         let ran = avsplus(&[&["help"], topic].concat());
         assert_eq!((ran.status, ran.text()), (0, avsplus(&["--help"]).text()));
