@@ -83,13 +83,22 @@ static void print_first_group(size_t length) {
     }
 }
 
+/* MARKER and a field's value are refused at a bit of the unit's body; no other refusal has one. */
+static void print_refusal(avsplus_answer a) {
+    printf("refused with %" PRIu32 " at byte %zu", a.status, a.offset);
+    if (a.bit != AVSPLUS_NO_BIT) {
+        printf(", bit %zu of the body", a.bit);
+    }
+    putchar('\n');
+}
+
 int main(int argc, char **argv) {
     need(argc == 2, "usage: recording FILE");
     need(avsplus_version() == AVSPLUS_VERSION, "the library is not that of the header");
     size_t length = read_stream(argv[1]);
     avsplus_answer a = avsplus_check(stream, length);
     if (a.status != AVSPLUS_DONE) {
-        printf("refused with %" PRIu32 " at byte %zu\n", a.status, a.offset);
+        print_refusal(a);
     } else {
         print_units(length, a.count);
         print_first_group(length);

@@ -81,6 +81,8 @@ runs() {
     same "$1: units, headers and the first group" examples/recording.txt "$scratch/out"
     answers "$1, a refused recording" 1 "$2" "$scratch/cut.avs"
     equal "$1: a refused recording" "refused with 11 at byte 658" "$(cat "$scratch/out")"
+    answers "$1, a refused field" 1 "$2" "$scratch/rate.avs"
+    equal "$1: a refused field" "refused with 25 at byte 0, bit 54 of the body" "$(cat "$scratch/out")"
     answers "$1, a recording without a display extension" 0 "$2" "$scratch/plain.avs"
     equal "$1: display size and colour not given" 2 "$(grep -c ' not given$' "$scratch/out")"
     answers "$1, no argument" 2 "$2"
@@ -97,7 +99,10 @@ needed() {
 example_in_c() {
     head -c -8 samples/two-groups.avs >"$scratch/cut.avs"
     local header='\0\0\1\xB0\x48\x40\x0F\x00\x21\xC2\x4C\xC4\xE2\x08\x00\x20\x02\x00\x80'
-    printf "$header"'\0\0\1\xB3\x80\0\0\1\0\x80\0\0\1\xB1' >"$scratch/plain.avs"
+    local rest='\0\0\1\xB3\x80\0\0\1\0\x80\0\0\1\xB1'
+    printf "$header$rest" >"$scratch/plain.avs"
+    # Frame rate code 0.
+    printf "${header/xC4/x04}$rest" >"$scratch/rate.avs"
     does "the example, shared" gcc -std=c11 $strict examples/recording.c $(pkg-config --cflags --libs avsplus) -o "$scratch/shared"
     equal "shared: the example asks for the installed library" "libavsplus.so.$interface" "$(needed "$scratch/shared")"
     LD_LIBRARY_PATH=$prefix/lib runs shared "$scratch/shared"
