@@ -1,17 +1,17 @@
 #!/usr/bin/env bash
-# What is linked with a library of another interface says so, and asks nothing else of it: of the library that is made here every
-# function but avsplus_version ends the program. A line for each that holds; the first that does not ends it.
+# What is linked with a library of another interface, before or after this one, says so, and asks nothing else of it: of the library
+# that is made here every function but avsplus_version ends the program. A line for each that holds; the first that does not ends it.
 set -euo pipefail
 cd "$(dirname "$0")/.."
 
 scripts/needs gcc ar cargo
 scratch=$(mktemp -d)
 trap 'rm -rf "$scratch"' EXIT
-other=$(($(sed -n 's/^#define AVSPLUS_VERSION \([0-9]*\)u$/\1/p' include/avsplus.h) + 1))
+interface=$(sed -n 's/^#define AVSPLUS_VERSION \([0-9]*\)u$/\1/p' include/avsplus.h)
 
 {
     echo "#include <stdlib.h>"
-    echo "unsigned avsplus_version(void) { return $other; }"
+    echo 'unsigned avsplus_version(void) { return (unsigned)atoi(getenv("OTHER_INTERFACE")); }'
     gcc -E -P include/avsplus.h | grep -oE 'avsplus_[a-z0-9_]+\(' | tr -d '(' | grep -v '^avsplus_version$' |
         sed 's/.*/void &(void) { abort(); }/'
 } >"$scratch/other.c"
@@ -34,17 +34,20 @@ says() {
 }
 
 sample=samples/two-groups.avs
-words="avsplus: OTHER INTERFACE (version $other): the library has another interface than this program"
 program=$built/release/avsplus
-says "$words" "$program" file "$sample"
-says "$words" "$program" file "$sample" --json
-says "$words" "$program" units "$sample"
-says "$words" "$program" header "$sample"
-says "$words" "$program" body "$sample" 0
-says "$words" "$program" unescape "$sample"
-says "$words" "$program" golomb "$sample" --escaped
-says "$words" "$program" golomb "$sample" --bits 8
-says "$words" "$program" bins "$sample" --bits 80 --count 1
-echo "ok   the command line: every command says that the library has another interface"
-says "recording: the library is not that of the crate" "$built/release/examples/recording" "$sample"
-echo "ok   the README's program in Rust says so too"
+for OTHER_INTERFACE in $((interface - 1)) $((interface + 1)); do
+    export OTHER_INTERFACE
+    words="avsplus: OTHER INTERFACE (version $OTHER_INTERFACE): the library has another interface than this program"
+    says "$words" "$program" file "$sample"
+    says "$words" "$program" file "$sample" --json
+    says "$words" "$program" units "$sample"
+    says "$words" "$program" header "$sample"
+    says "$words" "$program" body "$sample" 0
+    says "$words" "$program" unescape "$sample"
+    says "$words" "$program" golomb "$sample" --escaped
+    says "$words" "$program" golomb "$sample" --bits 8
+    says "$words" "$program" bins "$sample" --bits 80 --count 1
+    echo "ok   interface $OTHER_INTERFACE: every command says that the library has another one"
+    says "recording: the library is not that of the crate" "$built/release/examples/recording" "$sample"
+    echo "ok   interface $OTHER_INTERFACE: the README's program in Rust says so too"
+done
