@@ -1,5 +1,6 @@
 /* The examples of document 01 through the C header, groups and extensions with each of their counts, macroblock rows
- * progressive and not, and null pointers with length 0: each line prints what it is, and exit 1 where one differs. */
+ * progressive and not, every bit that a refusal carries, and null pointers with length 0: each line prints what it is, and exit
+ * 1 where one differs. */
 #include <stdio.h>
 #include <string.h>
 
@@ -13,6 +14,8 @@
 static const uint8_t stream[33] = {0, 0, 1, 0xB0, HEADER, REST};
 static const uint8_t with_display[43] = {0, 0, 1, 0xB0, HEADER, 0, 0, 1, 0xB5, DISPLAY, REST};
 static const uint8_t with_colour[46] = {0, 0, 1, 0xB0, HEADER, 0, 0, 1, 0xB5, COLOURED, REST};
+static const uint8_t header[15] = {HEADER}, display[6] = {DISPLAY}, coloured[9] = {COLOURED};
+static const uint8_t copyright[12] = {0x48, 0x3C, 0x04, 0x04, 0x8D, 0x2A, 0xCF, 0x13, 0x6B, 0xCD, 0xEF, 0x80};
 static int differing = 0;
 
 static void expect(const char *what, bool holds) {
@@ -20,8 +23,14 @@ static void expect(const char *what, bool holds) {
     differing += !holds;
 }
 
+/* An answer without a bit. */
 static bool is(avsplus_answer a, uint32_t status, size_t offset, size_t count) {
-    return a.status == status && a.offset == offset && a.count == count;
+    return a.status == status && a.offset == offset && a.count == count && a.bit == AVSPLUS_NO_BIT;
+}
+
+/* A refusal with a bit. */
+static bool refused_at(avsplus_answer a, uint32_t status, size_t offset, size_t bit) {
+    return a.status == status && a.offset == offset && a.count == 0 && a.bit == bit;
 }
 
 static bool all(const uint32_t *words, size_t n, uint32_t value) {
@@ -50,7 +59,7 @@ static void filing(void) {
     expect("4: CUT at 29", is(avsplus_file(stream, 32, rows, 12), 2, 29, 0));
     expect("5: NO CODE", is(avsplus_file(NULL, 0, rows, 12), 1, 0, 0));
     expect("6: STUFFING at 0", is(file_with(18, 0x00, rows, 12), 9, 0, 0));
-    expect("7: VALUE at 24", is(file_with(27, 0x44, rows, 12), 8, 24, 0) && all(rows, 13, UINT32_MAX));
+    expect("7: VALUE of slice row at 24, bit 0", refused_at(file_with(27, 0x44, rows, 12), 32, 24, 0) && all(rows, 13, UINT32_MAX));
     expect("7: 43 is filed", is(file_with(27, 0x43, rows, 12), 0, 0, 4));
     avsplus_answer a = avsplus_file(stream, sizeof stream, rows, 13);
     expect("1: FILED, 4 units", is(a, 0, 0, 4) && memcmp(rows, filed, sizeof filed) == 0 && rows[12] == UINT32_MAX);
@@ -143,17 +152,87 @@ static void macroblock_rows(void) {
                                        n[AVSPLUS_HEADER_PROGRESSIVE] == 0 && n[AVSPLUS_HEADER_MACROBLOCK_ROWS] == 32);
     expect("its slice 31 is filed", is(avsplus_check(changed, sizeof changed), 0, 0, 4));
     of_496_lines(changed, false, 32);
-    expect("its slice 32 is VALUE", is(avsplus_check(changed, sizeof changed), 8, 24, 0));
+    expect("its slice 32 is VALUE of slice row", refused_at(avsplus_check(changed, sizeof changed), 32, 24, 0));
     of_496_lines(changed, true, 30);
     expect("31 rows where progressive is 1", is(avsplus_group(changed, sizeof changed, 0, n, ROOM), 0, 0, 14) && n[AVSPLUS_HEADER_VERTICAL_SIZE] == 496 &&
                                                  n[AVSPLUS_HEADER_PROGRESSIVE] == 1 && n[AVSPLUS_HEADER_MACROBLOCK_ROWS] == 31);
     of_496_lines(changed, true, 31);
-    expect("its slice 31 is VALUE", is(avsplus_check(changed, sizeof changed), 8, 24, 0));
+    expect("its slice 31 is VALUE of slice row", refused_at(avsplus_check(changed, sizeof changed), 32, 24, 0));
+}
+
+/* A good body, and the byte of it that is changed to this, so that it is refused with the status at the bit. */
+typedef struct {
+    const char *what;
+    const uint8_t *body;
+    size_t length;
+    size_t byte;
+    uint8_t changed;
+    uint32_t status;
+    size_t bit;
+} fault;
+
+/* 16 by 16, so that one byte makes a size 0; and a copyright extension of nobody, with no number. */
+static const uint8_t small[15] = {0x48, 0x40, 0x00, 0x20, 0x00, 0x82, 0x4C, 0xC4, 0xE2, 0x08, 0x00, 0x20, 0x02, 0x00, 0x80};
+static const uint8_t unowned[12] = {0x48, 0x04, 0x04, 0x00, 0x00, 0x20, 0x00, 0x00, 0x40, 0x00, 0x00, 0x80};
+
+static const fault faults[] = {
+    {"VALUE of width", small, 15, 3, 0x00, AVSPLUS_VALUE_WIDTH, 17},
+    {"VALUE of height", small, 15, 5, 0x02, AVSPLUS_VALUE_HEIGHT, 31},
+    {"VALUE of chroma", header, 15, 5, 0xC6, AVSPLUS_VALUE_CHROMA, 45},
+    {"VALUE of precision", header, 15, 6, 0x0C, AVSPLUS_VALUE_PRECISION, 47},
+    {"VALUE of aspect", header, 15, 6, 0x40, AVSPLUS_VALUE_ASPECT, 50},
+    {"VALUE of rate", header, 15, 7, 0x04, AVSPLUS_VALUE_RATE, 54},
+    {"MARKER of a header, the first", header, 15, 9, 0x00, AVSPLUS_MARKER, 76},
+    {"MARKER of a header, the second", header, 15, 11, 0x00, AVSPLUS_MARKER, 90},
+    {"MARKER of a display extension", display, 6, 2, 0x00, AVSPLUS_MARKER, 23},
+    {"VALUE of stereo", display, 6, 4, 0xE3, AVSPLUS_VALUE_STEREO, 38},
+    {"VALUE of transfer", coloured, 9, 2, 0x00, AVSPLUS_VALUE_TRANSFER, 17},
+    {"VALUE of matrix", coloured, 9, 4, 0x0F, AVSPLUS_VALUE_MATRIX, 25},
+    {"MARKER with colour", coloured, 9, 5, 0x00, AVSPLUS_MARKER, 47},
+    {"VALUE of stereo with colour", coloured, 9, 7, 0xE3, AVSPLUS_VALUE_STEREO, 62},
+    {"MARKER of a copyright extension, the first", copyright, 12, 2, 0x00, AVSPLUS_MARKER, 21},
+    {"MARKER of a copyright extension, the second", copyright, 12, 5, 0x0A, AVSPLUS_MARKER, 42},
+    {"MARKER of a copyright extension, the third", copyright, 12, 8, 0x2B, AVSPLUS_MARKER, 65},
+    {"VALUE of copyright owner", copyright, 12, 0, 0x40, AVSPLUS_VALUE_COPYRIGHT_OWNER, 5},
+    {"VALUE of copyright number", unowned, 12, 10, 0x01, AVSPLUS_VALUE_COPYRIGHT_NUMBER, 22},
+};
+
+/* A sequence header is known by its length. */
+static avsplus_answer read_body(const uint8_t *body, size_t length, uint64_t *n) {
+    return length == sizeof header ? avsplus_sequence_header(body, length, n, ROOM) : avsplus_extension(body, length, true, n, ROOM);
+}
+
+/* The stream with this sequence header, or with this extension after its own; answers its length, and where the body's unit is. */
+static size_t stream_with(uint8_t *out, const uint8_t *body, size_t length, size_t *offset) {
+    static const uint8_t rest[] = {REST};
+    *offset = length == sizeof header ? 0 : 19;
+    memcpy(out, stream, 19);
+    memcpy(out + *offset, (const uint8_t[]){0, 0, 1, *offset == 0 ? 0xB0 : 0xB5}, 4);
+    memcpy(out + *offset + 4, body, length);
+    memcpy(out + *offset + 4 + length, rest, sizeof rest);
+    return *offset + 4 + length + sizeof rest;
+}
+
+/* Of a body alone the number and the bit, of a stream that holds it the offset too; each body is good before it is changed. */
+static void refused_bits(void) {
+    for (const fault *f = faults; f < faults + sizeof faults / sizeof *faults; f++) {
+        uint8_t body[15], whole[64];
+        uint64_t n[ROOM];
+        size_t offset;
+        memcpy(body, f->body, f->length);
+        bool good = read_body(body, f->length, n).status == AVSPLUS_DONE;
+        body[f->byte] = f->changed;
+        size_t length = stream_with(whole, body, f->length, &offset);
+        expect(f->what, good && refused_at(read_body(body, f->length, n), f->status, 0, f->bit) &&
+                            refused_at(avsplus_check(whole, length), f->status, offset, f->bit) &&
+                            refused_at(avsplus_group(whole, length, 0, n, ROOM), f->status, offset, f->bit));
+    }
+    static const uint8_t slice_5_twice[] = {0, 0, 1, 0xB0, HEADER, 0, 0, 1, 0xB3, 0x80, 0, 0, 1, 5, 0x80, 0, 0, 1, 5, 0x80};
+    expect("VALUE of slice order", refused_at(avsplus_check(slice_5_twice, sizeof slice_5_twice), AVSPLUS_VALUE_SLICE_ORDER, 29, 0));
 }
 
 static void extensions(void) {
-    static const uint8_t display[6] = {DISPLAY}, coloured[9] = {COLOURED}, opaque[2] = {0xB5, 0x00};
-    static const uint8_t copyright[12] = {0x48, 0x3C, 0x04, 0x04, 0x8D, 0x2A, 0xCF, 0x13, 0x6B, 0xCD, 0xEF, 0x80};
+    static const uint8_t opaque[2] = {0xB5, 0x00};
     uint64_t n[ROOM];
     expect("a display extension", gives(in_head, display, 6, AVSPLUS_EXTENSION_DISPLAY, n) && n[AVSPLUS_EXTENSION_NUMBER] == 2);
     expect("its numbers", n[AVSPLUS_EXTENSION_DISPLAY_FORMAT] == 1 && n[AVSPLUS_EXTENSION_DISPLAY_RANGE] == 0 && n[AVSPLUS_EXTENSION_DISPLAY_WIDTH] == 1920 &&
@@ -183,6 +262,9 @@ static void payloads(void) {
     expect("9: bits 011 are -1", s.status == 0 && s.number == -1 && s.place == 3);
     n = avsplus_unsigned_golomb(bits, 1, 1, 1);
     expect("no number past the last bit", n.status == 14 && n.number == AVSPLUS_NO_NUMBER && n.place == 1);
+    static const uint8_t zeros[5] = {0};
+    n = avsplus_unsigned_golomb(zeros, 5, 40, 0);
+    expect("VALUE of 32 zeros", n.status == AVSPLUS_VALUE && n.number == AVSPLUS_NO_NUMBER && n.place == 0);
 }
 
 static void bins(void) {
@@ -225,6 +307,7 @@ int main(void) {
     checking();
     groups();
     macroblock_rows();
+    refused_bits();
     extensions();
     payloads();
     bins();
