@@ -71,8 +71,8 @@ typedef struct {
     uint32_t status;
     size_t offset; /* of a refused stream, where in it the refusal stands; 0 where the answer has no offset */
     size_t count;  /* how many units, numbers or bits there are; 0 for a refusal and for what is not given */
-    size_t bit;    /* of MARKER and of statuses 20 to 32, which bit of the body, counted from 0: the marker, the first bit of the
-                    * field, or 0 for a slice, which is refused for its code byte; AVSPLUS_NO_BIT for every other status */
+    size_t bit;    /* of MARKER and of statuses 20 to 32, which bit of the body, counted from 0: the marker, the field's first
+                    * bit, or 0 for a slice, which is refused for its code byte; AVSPLUS_NO_BIT for every other status */
 } avsplus_answer;
 
 /* A part of a stream. */
@@ -177,8 +177,8 @@ enum {
 avsplus_answer avsplus_check(const uint8_t *stream, size_t length);
 
 /* Files a stream. Done: count is its units, and rows[0 .. AVSPLUS_ROW_WORDS * count) hold a row for each; later words stay.
- * Refused: the first refusal from the left with its offset, all words stay. FULL, last of all, where words is less than
- * AVSPLUS_ROW_WORDS times the units. */
+ * Refused: the first refusal from the left with its offset, and with its bit where it has one; all words stay. FULL, last of
+ * all, where words is less than AVSPLUS_ROW_WORDS times the units. */
 avsplus_answer avsplus_file(const uint8_t *stream, size_t length, uint32_t *rows, size_t words);
 
 /* Whether row i exists: rows holds it whole, and its body ends within the stream. Any words will do for rows. */
@@ -188,10 +188,10 @@ bool avsplus_row_exists(const uint8_t *stream, size_t length, const uint32_t *ro
 avsplus_part avsplus_row_body(const uint8_t *stream, size_t length, const uint32_t *rows, size_t words, size_t i);
 
 /* Group g of a stream, counted from 0. Done: AVSPLUS_GROUP_PLAIN numbers, AVSPLUS_GROUP_WITH_DISPLAY where it has a display
- * extension, AVSPLUS_GROUP_WITH_COLOUR where that has its colour; later ones stay. Refused with the stream's own refusal and
- * its offset, then with NO ROW where it has no such group, then with FULL where fewer numbers are lent than it has; all stay.
- * Each call checks the whole stream, so that the time to ask for each of many groups grows with the square of their number:
- * file the stream once instead, and read headers and extensions by its rows. */
+ * extension, AVSPLUS_GROUP_WITH_COLOUR where that has its colour; later ones stay. Refused as filing refuses the stream, with
+ * offset and bit, then with NO ROW where it has no such group, then with FULL where fewer numbers are lent than it has; all
+ * stay. Each call checks the whole stream, so that the time to ask for each of many groups grows with the square of their
+ * number: file the stream once instead, and read headers and extensions by its rows. */
 avsplus_answer avsplus_group(const uint8_t *stream, size_t length, size_t g, uint64_t *numbers, size_t lent);
 
 /* ── bodies ── */
