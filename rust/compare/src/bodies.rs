@@ -38,7 +38,7 @@ fn any_body(random: &mut Random) -> Vec<u8> {
 }
 
 /// Every body is read as a header, and as an extension in both scopes with some rooms.
-fn questions(comparison: &mut Comparison, body: &[u8], extension_rooms: &[usize]) {
+pub(crate) fn questions(comparison: &mut Comparison, body: &[u8], extension_rooms: &[usize]) {
     let wanted = rooms(AVSPLUS_HEADER_NUMBERS);
     comparison.numbers(Question::SequenceHeader, &alone, &wanted, |decoder, lent| {
         (decoder.sequence_header)(body, lent)

@@ -3,8 +3,8 @@
 use std::fmt::Debug;
 
 use avsplus_sys::{
-    Answer, Bin, Context, Golomb, PairBin, Part, PlainBin, SignedNumber, Started, AVSPLUS_DONE, AVSPLUS_NO_KIND,
-    AVSPLUS_NO_ROW, AVSPLUS_UNKNOWN,
+    Answer, Bin, Context, Golomb, PairBin, Part, PlainBin, SignedNumber, Started, AVSPLUS_DONE, AVSPLUS_NO_BIT,
+    AVSPLUS_NO_KIND, AVSPLUS_NO_ROW, AVSPLUS_UNKNOWN,
 };
 
 use crate::decoder::Decoder;
@@ -25,6 +25,11 @@ pub(crate) trait Answered: PartialEq + Debug {
         AVSPLUS_DONE
     }
 
+    /// Of a refusal that carries a bit, its offset and the bit.
+    fn bit(&self) -> Option<(usize, usize)> {
+        None
+    }
+
     /// The answer in words, where it differs from another.
     fn show(&self, _other: &Self) -> String {
         format!("{:?}", self)
@@ -41,7 +46,20 @@ macro_rules! answered_with_status {
     };
 }
 
-answered_with_status!(Answer, Golomb, SignedNumber, Started, PlainBin, Bin, PairBin);
+answered_with_status!(Golomb, SignedNumber, Started, PlainBin, Bin, PairBin);
+
+impl Answered for Answer {
+    fn status(&self) -> u32 {
+        self.status
+    }
+
+    fn bit(&self) -> Option<(usize, usize)> {
+        match self.bit {
+            AVSPLUS_NO_BIT => None,
+            bit => Some((self.offset, bit)),
+        }
+    }
+}
 
 impl Answered for Context {}
 
@@ -86,6 +104,10 @@ impl<T: Pattern> Lent<T> {
 impl<T: Pattern> Answered for Lent<T> {
     fn status(&self) -> u32 {
         self.answer.status
+    }
+
+    fn bit(&self) -> Option<(usize, usize)> {
+        self.answer.bit()
     }
 
     fn show(&self, other: &Self) -> String {
@@ -159,6 +181,10 @@ pub struct Decoders<'a> {
 pub(crate) struct Comparison<'a> {
     decoders: Decoders<'a>,
     report: Report,
+    /// The input that questions are asked about, as it was before.
+    input: Box<[u8]>,
+    /// Whether all wrappers are asked about it.
+    for_all: bool,
 }
 
 /// A part of an input in hexadecimal.
@@ -173,6 +199,8 @@ impl<'a> Comparison<'a> {
         Comparison {
             decoders,
             report: Report::new(),
+            input: Box::default(),
+            for_all: false,
         }
     }
 
@@ -184,19 +212,33 @@ impl<'a> Comparison<'a> {
     pub fn input(&mut self, bytes: Vec<u8>, questions: impl FnOnce(&mut Self, &[u8])) {
         // Without spare room a read past the end can be seen by a memory checker.
         let lent = bytes.into_boxed_slice();
-        let kept = lent.clone();
+        self.input = lent.clone();
         self.report.inputs += 1;
         let before = self.report.differences;
         questions(self, &lent);
-        if lent != kept {
+        let kept = &self.input;
+        if lent != *kept {
             self.report.difference(|| Difference {
                 what: "the input was written to".to_string(),
-                sides: [("before", hexadecimal(&kept)), ("after", hexadecimal(&lent))],
+                sides: [("before", hexadecimal(kept)), ("after", hexadecimal(&lent))],
             });
         }
         if self.report.differences > before {
-            self.report.name_input(before, &hexadecimal(&kept));
+            self.report.name_input(before, &hexadecimal(kept));
         }
+    }
+
+    /// The same, with each wrapper asked whosever turn it is.
+    pub fn input_for_all(&mut self, bytes: Vec<u8>, questions: impl FnOnce(&mut Self, &[u8])) {
+        self.for_all = true;
+        self.input(bytes, questions);
+        self.for_all = false;
+    }
+
+    /// Whether the unit at an offset of the input is in a later group than the first; the units before it are good.
+    fn is_in_later_group(&self, offset: usize) -> bool {
+        let units = self.input.windows(4).take(offset + 1);
+        units.filter(|unit| *unit == [0, 0, 1, 0xB0]).count() > 1
     }
 
     /// Asks all decoders; answers what the independent one does.
@@ -208,10 +250,16 @@ impl<'a> Comparison<'a> {
         } = self.decoders;
         let expected = call(reference);
         self.report.met(question, expected.status());
-        let turn = (self.report.inputs % WRAPPED_SHARE) as usize;
-        for decoder in [Some(library), wrappers.get(turn).copied()].into_iter().flatten() {
+        if let Some((offset, bit)) = expected.bit() {
+            let later = self.is_in_later_group(offset);
+            self.report.carried(question, expected.status(), bit, later);
+        }
+        let (for_all, turn) = (self.for_all, (self.report.inputs % WRAPPED_SHARE) as usize);
+        let asked = wrappers.iter().enumerate().filter(|(i, _)| for_all || *i == turn);
+        for decoder in [library].into_iter().chain(asked.map(|(_, wrapper)| *wrapper)) {
             let answered = call(decoder);
             if answered != expected {
+                self.report.differing(question);
                 self.report.difference(|| Difference {
                     what: format!("{}, {}", question.name(), with()),
                     sides: [

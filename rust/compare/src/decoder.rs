@@ -2,7 +2,7 @@
 
 use avsplus_sys::{
     Answer, Bin, Context, Golomb, PairBin, Part, PlainBin, SignedNumber, Started, State, AVSPLUS_DONE, AVSPLUS_FULL,
-    AVSPLUS_NO_BIN, AVSPLUS_NO_NUMBER, AVSPLUS_NO_SIGNED_NUMBER,
+    AVSPLUS_NO_BIN, AVSPLUS_NO_BIT, AVSPLUS_NO_NUMBER, AVSPLUS_NO_SIGNED_NUMBER,
 };
 
 /// Numbers of a code.
@@ -44,15 +44,17 @@ pub(crate) fn done(count: usize) -> Answer {
         status: AVSPLUS_DONE,
         offset: 0,
         count,
+        bit: AVSPLUS_NO_BIT,
     }
 }
 
-/// A refusal.
-pub(crate) fn refused(status: u32, offset: usize) -> Answer {
+/// A refusal, with the bit of a body where it carries one.
+pub(crate) fn refused(status: u32, offset: usize, bit: Option<usize>) -> Answer {
     Answer {
         status,
         offset,
         count: 0,
+        bit: bit.unwrap_or(AVSPLUS_NO_BIT),
     }
 }
 
@@ -63,7 +65,7 @@ pub(crate) fn hand_over<T: Copy>(words: &[T], lent: &mut [T]) -> Answer {
             part.copy_from_slice(words);
             done(words.len())
         }
-        None => refused(AVSPLUS_FULL, 0),
+        None => refused(AVSPLUS_FULL, 0, None),
     }
 }
 

@@ -5,6 +5,7 @@ mod bins;
 mod bodies;
 mod comparison;
 mod decoder;
+mod fields;
 mod inputs;
 mod library;
 mod payloads;
@@ -85,4 +86,6 @@ fn exhaustive(comparison: &mut Comparison, small: bool) {
     payloads::all_escapes(comparison, escapes);
     payloads::two_byte_golomb(comparison, step);
     slices::of_all_heights(comparison, heights);
+    slices::of_two(comparison);
+    fields::of_all_layouts(comparison, !small);
 }

@@ -5,7 +5,7 @@ use avsplus_sys::{
     AVSPLUS_EXTENSION_UNIT, AVSPLUS_I_PICTURE, AVSPLUS_NO_KIND, AVSPLUS_PB_PICTURE, AVSPLUS_SEQUENCE_END,
     AVSPLUS_SEQUENCE_HEADER, AVSPLUS_SLICE, AVSPLUS_USER_DATA,
 };
-use independent::{Copyright, Display, Extension, Header, Refused};
+use independent::{Copyright, Display, Extension, Fault, Header, Refused};
 
 use crate::decoder::{self, done, hand_over, refused, Decoder};
 
@@ -37,8 +37,18 @@ pub const REFERENCE: Decoder = Decoder {
 fn units(checked: Result<u64, Refused>) -> Answer {
     match checked {
         Ok(units) => done(units as usize),
-        Err(refusal) => refused(refusal.number, refusal.place as usize),
+        Err(refusal) => stream_refused(refusal),
     }
+}
+
+fn stream_refused(refusal: Refused) -> Answer {
+    let bit = refusal.bit.map(|bit| bit as usize);
+    refused(refusal.number, refusal.place as usize, bit)
+}
+
+/// The refusal of a single body, which has no offset.
+fn body_refused(fault: Fault) -> Answer {
+    refused(fault.number, 0, fault.bit.map(|bit| bit as usize))
 }
 
 fn row_body(stream: &[u8], rows: &[u32], i: usize) -> Part {
@@ -53,7 +63,7 @@ fn group(stream: &[u8], g: usize, lent: &mut [u64]) -> Answer {
             let display = display.map_or(vec![], |display| display_numbers(&display));
             hand_over(&[header_numbers(&header), display].concat(), lent)
         }
-        Err(refusal) => refused(refusal.number, refusal.place as usize),
+        Err(refusal) => stream_refused(refusal),
     }
 }
 
@@ -90,14 +100,14 @@ fn display_numbers(display: &Display) -> Vec<u64> {
 fn sequence_header(body: &[u8], lent: &mut [u64]) -> Answer {
     match independent::header(body) {
         Ok(header) => hand_over(&header_numbers(&header), lent),
-        Err(status) => refused(status, 0),
+        Err(fault) => body_refused(fault),
     }
 }
 
 fn extension(body: &[u8], in_head: bool, lent: &mut [u64]) -> Answer {
     match independent::extension(body, in_head) {
         Ok(extension) => hand_over(&extension_numbers(&extension), lent),
-        Err(status) => refused(status, 0),
+        Err(fault) => body_refused(fault),
     }
 }
 
@@ -122,7 +132,7 @@ fn ratio(ratio: Option<(u32, u32)>, lent: &mut [u64]) -> Answer {
 fn remove_escapes(payload: &[u8], output: &mut [u8]) -> Answer {
     match independent::unescape(payload, output) {
         Ok(bits) => done(bits as usize),
-        Err(status) => refused(status, 0),
+        Err(status) => refused(status, 0, None),
     }
 }
 

@@ -9,7 +9,8 @@ use independent::NAMES;
 const KEPT: usize = 10;
 /// Questions side by side in the table.
 const COLUMNS: usize = 5;
-const ANSWERS: usize = NAMES.len();
+/// One more than the greatest status.
+const STATUSES: usize = NAMES[NAMES.len() - 1].0 as usize + 1;
 
 /// What is asked.
 #[derive(Clone, Copy)]
@@ -82,7 +83,11 @@ struct Kept {
 pub struct Report {
     pub inputs: u64,
     pub differences: u64,
-    met: [[u64; ANSWERS]; QUESTIONS.len()],
+    /// How often a question was answered in two ways.
+    differing: [u64; QUESTIONS.len()],
+    met: [[u64; STATUSES]; QUESTIONS.len()],
+    /// How often a bit was carried, by question, status, bit and whether in a later group than the first.
+    carried: BTreeMap<(usize, u32, usize, bool), u64>,
     /// How often so many numbers were handed over, by question and count.
     handed_over: BTreeMap<(usize, usize), u64>,
     kept: Vec<Kept>,
@@ -93,7 +98,9 @@ impl Report {
         Report {
             inputs: 0,
             differences: 0,
-            met: [[0; ANSWERS]; QUESTIONS.len()],
+            differing: [0; QUESTIONS.len()],
+            met: [[0; STATUSES]; QUESTIONS.len()],
+            carried: BTreeMap::new(),
             handed_over: BTreeMap::new(),
             kept: Vec::new(),
         }
@@ -102,6 +109,20 @@ impl Report {
     /// Counts an answer; the independent decoder's statuses all have a name.
     pub(crate) fn met(&mut self, question: Question, status: u32) {
         self.met[question as usize][status as usize] += 1;
+    }
+
+    /// Counts a refusal that carries a bit.
+    pub(crate) fn carried(&mut self, question: Question, status: u32, bit: usize, later: bool) {
+        *self.carried.entry((question as usize, status, bit, later)).or_insert(0) += 1;
+    }
+
+    /// The statuses with the bits that a question's refusals carried, in the first group or in later ones; of a single body, all.
+    pub fn bits(&self, question: &str, later: bool) -> Vec<(u32, usize)> {
+        let carried = self
+            .carried
+            .keys()
+            .filter(|(q, _, _, l)| QUESTIONS[*q] == question && *l == later);
+        carried.map(|&(_, status, bit, _)| (status, bit)).collect()
     }
 
     /// Counts an answer that hands so many numbers over.
@@ -118,6 +139,17 @@ impl Report {
     /// How often an answer was met by all questions together.
     pub fn times(&self, status: u32) -> u64 {
         self.met.iter().map(|answers| answers[status as usize]).sum()
+    }
+
+    /// Counts a question that was answered in two ways.
+    pub(crate) fn differing(&mut self, question: Question) {
+        self.differing[question as usize] += 1;
+    }
+
+    /// The questions that were answered in two ways.
+    pub fn differing_questions(&self) -> Vec<&'static str> {
+        let counted = QUESTIONS.iter().zip(self.differing);
+        counted.filter(|(_, count)| *count > 0).map(|(name, _)| *name).collect()
     }
 
     /// Counts a difference; the first ones are kept.
@@ -145,17 +177,41 @@ fn shown(count: u64) -> String {
     }
 }
 
-/// Some questions side by side, an answer a line.
+/// A line of a table.
+fn line(f: &mut fmt::Formatter, name: &str, cells: impl Iterator<Item = String>) -> fmt::Result {
+    write!(f, "{:<28}", name)?;
+    for cell in cells {
+        write!(f, "{:>17}", cell)?;
+    }
+    writeln!(f)
+}
+
+/// Some questions side by side, an answer a line; those that none of them has are left out.
 fn table(f: &mut fmt::Formatter, report: &Report, questions: &[usize]) -> fmt::Result {
-    let line = |f: &mut fmt::Formatter, name: String, count: &dyn Fn(usize) -> String| {
-        write!(f, "{:<16}", name)?;
-        questions.iter().try_for_each(|&q| write!(f, "{:>17}", count(q)))?;
-        writeln!(f)
-    };
-    line(f, String::new(), &|q| QUESTIONS[q].to_string())?;
-    for (number, name) in NAMES.iter().enumerate() {
-        let name = if number == 0 { "done" } else { name };
-        line(f, format!("{:2} {}", number, name), &|q| shown(report.met[q][number]))?;
+    line(f, "", questions.iter().map(|&q| QUESTIONS[q].to_string()))?;
+    for (status, name) in NAMES {
+        let counts = questions.iter().map(|&q| report.met[q][status as usize]);
+        if counts.clone().all(|count| count == 0) {
+            continue;
+        }
+        let name = if status == 0 { "done" } else { name };
+        line(f, &format!("{:2} {}", status, name), counts.map(shown))?;
+    }
+    writeln!(f)
+}
+
+/// The bits that refusals carried, each with how often: of bodies alone, in the first group of streams and in later ones.
+fn bits(f: &mut fmt::Formatter, report: &Report) -> fmt::Result {
+    let mut counts: BTreeMap<(u32, usize), [u64; 3]> = BTreeMap::new();
+    for (&(q, status, bit, later), times) in &report.carried {
+        let of_body = q == Question::SequenceHeader as usize || q == Question::Extension as usize;
+        let column = if of_body { 0 } else { 1 + usize::from(later) };
+        counts.entry((status, bit)).or_insert([0; 3])[column] += times;
+    }
+    let columns = ["bodies", "first group", "later groups"];
+    line(f, "refusal at a bit", columns.iter().map(|name| name.to_string()))?;
+    for ((status, bit), times) in counts {
+        line(f, &format!("{:2} at bit {}", status, bit), times.iter().copied().map(shown))?;
     }
     writeln!(f)
 }
@@ -164,6 +220,7 @@ impl fmt::Display for Report {
     fn fmt(&self, f: &mut fmt::Formatter) -> fmt::Result {
         let questions: Vec<usize> = (0..QUESTIONS.len()).collect();
         questions.chunks(COLUMNS).try_for_each(|some| table(f, self, some))?;
+        bits(f, self)?;
         for (&(q, count), times) in &self.handed_over {
             writeln!(f, "{:<16} {:>2} numbers handed over {:>8} times", QUESTIONS[q], count, times)?;
         }

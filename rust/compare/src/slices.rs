@@ -1,10 +1,10 @@
-//! Macroblock rows: of every height, and the slices in and after the last row, progressive and not.
+//! Macroblock rows: of every height, and the slices in and after the last row, progressive and not; and two slices in any order.
 
-use avsplus_sys::{AVSPLUS_HEADER_NUMBERS, AVSPLUS_ROW_WORDS};
+use avsplus_sys::{AVSPLUS_GROUP_PLAIN, AVSPLUS_HEADER_NUMBERS, AVSPLUS_ROW_WORDS};
 
 use crate::comparison::{alone, Comparison};
 use crate::report::Question;
-use crate::streams::{check, file, BEGINNING, ENDING};
+use crate::streams::{check, file, group as group_numbers, BEGINNING, ENDING};
 
 /// The most that 14 bits hold.
 const TALLEST: u32 = 16383;
@@ -70,6 +70,30 @@ fn slice(comparison: &mut Comparison, progressive: bool, vertical: u32, code: u8
         comparison.input(bytes, |comparison, stream| {
             check(comparison, stream);
             file(comparison, stream, 7 * AVSPLUS_ROW_WORDS);
+        });
+    }
+}
+
+/// A slice after another one, in the same picture and in the next one, in the first group and in a second one: lower, the same
+/// and higher, in the rows and past them, where slices are tested and where they are not. Both wrappers are asked too.
+pub(crate) fn of_two(comparison: &mut Comparison) {
+    for (vertical, before) in [496, 2801].iter().flat_map(|&v| [0, 5, 30, 31].map(|before| (v, before))) {
+        for after in [0, 4, 5, 6, 30, 31, 32, 0xAF] {
+            two(comparison, vertical, before, after);
+        }
+    }
+}
+
+fn two(comparison: &mut Comparison, vertical: u32, before: u8, after: u8) {
+    let slice = [0, 0, 1, after, 0x80];
+    let next_picture = [&[0, 0, 1, 0xB6, 0x80], &slice[..]].concat();
+    let first_group = group(true, vertical, 30);
+    for (earlier, last) in [(&[][..], &slice[..]), (&[], &next_picture), (&first_group, &slice)] {
+        let bytes = [earlier, &group(false, vertical, before), last, &ENDING].concat();
+        comparison.input_for_all(bytes, |comparison, stream| {
+            check(comparison, stream);
+            file(comparison, stream, 8 * AVSPLUS_ROW_WORDS);
+            group_numbers(comparison, stream, 0, &[AVSPLUS_GROUP_PLAIN, AVSPLUS_GROUP_PLAIN + 1]);
         });
     }
 }

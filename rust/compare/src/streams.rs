@@ -129,7 +129,7 @@ fn groups(comparison: &mut Comparison, stream: &[u8]) {
     }
 }
 
-fn group(comparison: &mut Comparison, stream: &[u8], g: usize, rooms: &[usize]) -> u32 {
+pub(crate) fn group(comparison: &mut Comparison, stream: &[u8], g: usize, rooms: &[usize]) -> u32 {
     let with = || format!("group {}", g);
     comparison.numbers(Question::Group, &with, rooms, |decoder, lent| {
         (decoder.group)(stream, g, lent)

@@ -49,9 +49,26 @@ pub const RECORDING: Decoder = Decoder {
     ..WRAPPED
 };
 
-/// The status of a refusal; a reason without a number is a difference.
+/// What the independent decoder names a judged field's refusal.
+const VALUE_OF: &str = "VALUE of ";
+
+/// The status of a refusal; a reason without a number, or with a field that is not its number's, is a difference.
 fn status(refusal: Refused) -> u32 {
-    refusal.reason.number().unwrap_or(u32::MAX)
+    let number = refusal.reason.number().unwrap_or(u32::MAX);
+    let field = independent::name(number).and_then(|name| name.strip_prefix(VALUE_OF));
+    if refusal.reason.field().map(|field| field.name()) == field {
+        number
+    } else {
+        u32::MAX
+    }
+}
+
+/// The status of a refusal that has neither offset nor bit: either is a difference.
+fn status_alone(refusal: Refused) -> u32 {
+    match (refusal.offset, refusal.reason.bit()) {
+        (None, None) => status(refusal),
+        _ => u32::MAX,
+    }
 }
 
 /// The units of a filed stream, or its refusal.
@@ -61,12 +78,13 @@ fn totals(filed: Result<Totals, Refused>) -> Answer {
 
 /// A refusal with its offset, or without one.
 fn stream_refused(refusal: Refused) -> Answer {
-    refused(status(refusal), refusal.offset.unwrap_or(0))
+    refused(status(refusal), refusal.offset.unwrap_or(0), refusal.reason.bit())
 }
 
 /// A refusal of a body or of a payload, which has no offset: one is a difference.
 fn body_refused(refusal: Refused) -> Answer {
-    refused(status(refusal), refusal.offset.map_or(0, |_| usize::MAX))
+    let offset = refusal.offset.map_or(0, |_| usize::MAX);
+    refused(status(refusal), offset, refusal.reason.bit())
 }
 
 fn file(stream: &[u8], rows: &mut [u32]) -> Answer {
@@ -127,7 +145,7 @@ fn recording_rows(stream: &[u8], lent: &mut [u32]) -> Answer {
         Err(refusal) => return stream_refused(refusal),
     };
     if !well_placed(&recording) {
-        return refused(u32::MAX, 0);
+        return refused(u32::MAX, 0, None);
     }
     let mut units = recording.units();
     let (mut rows, mut from_end) = (Vec::new(), Vec::new());
@@ -258,11 +276,17 @@ fn remove_escapes(raw: &[u8], output: &mut [u8]) -> Answer {
 }
 
 fn unsigned_golomb(bytes: &[u8], bits: usize, place: usize) -> Golomb {
-    decoder::golomb(Payload::first_bits(bytes, bits).unsigned_golomb(place).map_err(status), place)
+    decoder::golomb(
+        Payload::first_bits(bytes, bits).unsigned_golomb(place).map_err(status_alone),
+        place,
+    )
 }
 
 fn signed_golomb(bytes: &[u8], bits: usize, place: usize) -> SignedNumber {
-    decoder::signed_number(Payload::first_bits(bytes, bits).signed_golomb(place).map_err(status), place)
+    decoder::signed_number(
+        Payload::first_bits(bytes, bits).signed_golomb(place).map_err(status_alone),
+        place,
+    )
 }
 
 fn from_state(state: State) -> avsplus::State {
@@ -292,7 +316,7 @@ fn start(bytes: &[u8], bits: usize, state: State) -> Started {
             state: to_state(state),
         },
         Err(refusal) => Started {
-            status: status(refusal),
+            status: status_alone(refusal),
             state,
         },
     }
@@ -300,7 +324,7 @@ fn start(bytes: &[u8], bits: usize, state: State) -> Started {
 
 /// Status and bin of the safe crate's answer.
 fn status_and_bin(decoded: Result<bool, Refused>) -> (u32, u32) {
-    decoder::bin(decoded.map(u32::from).map_err(status))
+    decoder::bin(decoded.map(u32::from).map_err(status_alone))
 }
 
 fn decode(bytes: &[u8], bits: usize, state: State, context: Context) -> Bin {

@@ -2,6 +2,8 @@
 
 use avsplus_sys::{Answer, Bin, Context, Golomb, PairBin, Part, SignedNumber, Started, State};
 use compare::{run, Decoder, Decoders, Plan, Report, DECODERS, LIBRARY, REFERENCE};
+use independent::generate::BITS;
+use independent::NAMES;
 
 fn small(decoders: Decoders<'_>, seed: u64) -> Report {
     let plan = Plan {
@@ -21,19 +23,47 @@ fn library_and_independent_decoder_agree() {
     }
 }
 
+/// The independent decoder in everyone's place.
+const ITSELF: Decoders = Decoders {
+    reference: &REFERENCE,
+    library: &REFERENCE,
+    wrappers: [&REFERENCE; 2],
+};
+
 #[test]
 fn a_decoder_agrees_with_itself_and_all_answers_are_met() {
-    let decoders = Decoders {
-        library: &REFERENCE,
-        wrappers: [&REFERENCE; 2],
-        ..DECODERS
-    };
-    let report = small(decoders, 1);
+    let report = small(ITSELF, 1);
     assert_eq!(report.differences, 0, "{}", report);
-    let missed: Vec<u32> = (0..=16).filter(|&status| report.times(status) == 0).collect();
+    let missed: Vec<_> = NAMES.iter().filter(|(status, _)| report.times(*status) == 0).collect();
     assert!(missed.is_empty(), "{:?}\n{}", missed, report);
     assert_eq!(report.counts("group"), [14, 19, 22]);
     assert_eq!(report.counts("extension"), [1, 5, 6, 9]);
+}
+
+/// Every status with every bit that it can have, by each question that can have it, in the first group and in later ones.
+#[test]
+fn all_bits_are_met() {
+    let report = small(ITSELF, 1);
+    for question in ["check", "file", "group"] {
+        for later in [false, true] {
+            assert_eq!(report.bits(question, later), bits_of(question), "{}", question);
+        }
+    }
+    for question in ["sequence header", "extension"] {
+        assert_eq!(report.bits(question, false), bits_of(question), "{}", question);
+    }
+}
+
+/// Statuses with their bits that a question can be answered with.
+fn bits_of(question: &str) -> Vec<(u32, usize)> {
+    let in_header = |&(status, bit): &(u32, u64)| matches!((status, bit), (7, 76 | 90) | (20..=25, _));
+    let in_slice = |&(status, _): &(u32, u64)| status == 31 || status == 32;
+    let asked = BITS.iter().filter(|place| match question {
+        "sequence header" => in_header(place),
+        "extension" => !in_header(place) && !in_slice(place),
+        _ => true,
+    });
+    asked.map(|&(status, bit)| (status, bit as usize)).collect()
 }
 
 /// The first word of the last row is another.
@@ -105,6 +135,20 @@ fn rows_swapped(stream: &[u8], rows: &mut [u32]) -> Answer {
 /// The first group's progressive holds for all groups.
 fn rows_by_first_group(stream: &[u8], rows: &mut [u32]) -> Answer {
     (LIBRARY.file)(&with_progressive(stream, |first, _| first), rows)
+}
+
+/// The bit of a refusal in a later group than the first is another.
+fn bit_of_later_groups(stream: &[u8], rows: &mut [u32]) -> Answer {
+    let answer = (LIBRARY.file)(stream, rows);
+    let units = stream.windows(4).take(answer.offset + 1);
+    let later = units.filter(|unit| *unit == [0, 0, 1, 0xB0]).count() > 1;
+    let bit = if later { answer.bit ^ 1 } else { answer.bit };
+    Answer { bit, ..answer }
+}
+
+/// An answer that is no refusal, or a refusal without a bit, has one.
+fn with_a_bit(answer: Answer) -> Answer {
+    Answer { bit: 0, ..answer }
 }
 
 /// The number of rows of a header becomes another, by progressive and vertical size.
@@ -242,8 +286,8 @@ fn last_number(answer: Answer, numbers: &mut [u64]) -> Answer {
 /// A slip by its name: what it changes in a decoder.
 type Slip = (&'static str, fn(&mut Decoder));
 
-/// At least one for every question.
-const SLIPS: [Slip; 34] = [
+/// At least one for every question; those of numbers and bits are in tests/bits.rs.
+const SLIPS: [Slip; 38] = [
     ("check that is full", |d| d.check = check_that_is_full),
     ("last row", |d| d.file = last_row),
     ("word after the rows", |d| d.file = word_after_rows),
@@ -253,6 +297,16 @@ const SLIPS: [Slip; 34] = [
     ("interlaced rows as progressive", |d| d.file = rows_of_progressive),
     ("rows swapped", |d| d.file = rows_swapped),
     ("rows by the first group", |d| d.file = rows_by_first_group),
+    ("bit of a later group", |d| d.file = bit_of_later_groups),
+    ("bit of a frame rate", |d| {
+        d.frame_rate = |c, n| with_a_bit((LIBRARY.frame_rate)(c, n))
+    }),
+    ("bit of a display ratio", |d| {
+        d.display_ratio = |a, n| with_a_bit((LIBRARY.display_ratio)(a, n))
+    }),
+    ("bit of escape removal", |d| {
+        d.remove_escapes = |p, o| with_a_bit((LIBRARY.remove_escapes)(p, o))
+    }),
     ("number of rows as progressive", |d| d.sequence_header = number_as_progressive),
     ("number of rows of one field", |d| d.sequence_header = number_of_one_field),
     ("row before the end", |d| d.row_exists = row_before_end),
