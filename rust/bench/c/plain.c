@@ -14,23 +14,37 @@ enum {
     OUT_OF_PLACE = 5,
     SHORT = 6,
     MARKER = 7,
-    VALUE = 8,
     STUFFING = 9,
     TWICE = 10,
     UNENDED = 11,
     FULL = 12,
     TOO_LONG = 13,
     PAYLOAD_OUT = 14,
-    BAD_STATE = 15
+    BAD_STATE = 15,
+    VALUE_WIDTH = 20,
+    VALUE_HEIGHT = 21,
+    VALUE_CHROMA = 22,
+    VALUE_PRECISION = 23,
+    VALUE_ASPECT = 24,
+    VALUE_RATE = 25,
+    VALUE_TRANSFER = 26,
+    VALUE_MATRIX = 27,
+    VALUE_STEREO = 28,
+    VALUE_COPYRIGHT_OWNER = 29,
+    VALUE_COPYRIGHT_NUMBER = 30,
+    VALUE_SLICE_ORDER = 31,
+    VALUE_SLICE_ROW = 32
 };
 
 #define LONGEST_STREAM 16777216u
 #define LONGEST_PAYLOAD 65536u
+#define NO_BIT SIZE_MAX
 
 typedef struct {
     uint32_t status;
     size_t offset;
     size_t count;
+    size_t bit; /* of a body, where a marker or a field is refused; else NO_BIT */
 } answer;
 
 /* ── time ── */
@@ -166,11 +180,36 @@ static bool is_stuffed(const uint8_t *body, size_t length, size_t k)
     return true;
 }
 
+/* A refusal for the field or marker that begins at a bit of the body. */
+static uint32_t refused(uint32_t status, size_t at, size_t *bit)
+{
+    *bit = at;
+    return status;
+}
+
 typedef struct {
     uint32_t profile, level, progressive, horizontal, vertical, chroma, precision, aspect, rate, bitrate, delay, buffer;
 } header;
 
-static uint32_t read_header(const uint8_t *body, size_t length, header *h)
+static uint32_t judge_header(const header *h, size_t *bit)
+{
+    if (h->horizontal == 0)
+        return refused(VALUE_WIDTH, 17, bit);
+    if (h->vertical == 0)
+        return refused(VALUE_HEIGHT, 31, bit);
+    if (h->chroma < 1 || 2 < h->chroma)
+        return refused(VALUE_CHROMA, 45, bit);
+    if (h->precision != 1)
+        return refused(VALUE_PRECISION, 47, bit);
+    if (h->aspect < 1 || 4 < h->aspect)
+        return refused(VALUE_ASPECT, 50, bit);
+    if (h->rate < 1 || 8 < h->rate)
+        return refused(VALUE_RATE, 54, bit);
+    return DONE;
+}
+
+/* Writes the bit where a marker or a field is refused, here and below. */
+static uint32_t read_header(const uint8_t *body, size_t length, header *h, size_t *bit)
 {
     if (length < 15)
         return SHORT;
@@ -184,17 +223,16 @@ static uint32_t read_header(const uint8_t *body, size_t length, header *h)
     h->precision = take(&r, 3);
     h->aspect = take(&r, 4);
     h->rate = take(&r, 4);
-    if (h->horizontal == 0 || h->vertical == 0 || h->chroma < 1 || 2 < h->chroma || h->precision != 1)
-        return VALUE;
-    if (h->aspect < 1 || 4 < h->aspect || h->rate < 1 || 8 < h->rate)
-        return VALUE;
+    uint32_t status = judge_header(h, bit);
+    if (status != DONE)
+        return status;
     h->bitrate = take(&r, 18);
     if (take(&r, 1) == 0)
-        return MARKER;
+        return refused(MARKER, 76, bit);
     h->bitrate += take(&r, 12) << 18;
     h->delay = take(&r, 1);
     if (take(&r, 1) == 0)
-        return MARKER;
+        return refused(MARKER, 90, bit);
     h->buffer = take(&r, 18);
     return is_stuffed(body, length, 14) ? DONE : STUFFING;
 }
@@ -208,7 +246,7 @@ static bool display_short(const uint8_t *body, size_t length)
     return length < 6 || (128 <= body[1] && length < 9);
 }
 
-static uint32_t read_display(const uint8_t *body, size_t length, display *d)
+static uint32_t read_display(const uint8_t *body, size_t length, display *d, size_t *bit)
 {
     if (display_short(body, length))
         return SHORT;
@@ -220,16 +258,18 @@ static uint32_t read_display(const uint8_t *body, size_t length, display *d)
         d->primaries = take(&r, 8);
         d->transfer = take(&r, 8);
         d->matrix = take(&r, 8);
-        if (d->transfer == 0 || d->transfer == 3 || 10 < d->transfer || d->matrix == 0 || d->matrix == 3 || 7 < d->matrix)
-            return VALUE;
+        if (d->transfer == 0 || d->transfer == 3 || 10 < d->transfer)
+            return refused(VALUE_TRANSFER, 17, bit);
+        if (d->matrix == 0 || d->matrix == 3 || 7 < d->matrix)
+            return refused(VALUE_MATRIX, 25, bit);
     }
     d->width = take(&r, 14);
     if (take(&r, 1) == 0)
-        return MARKER;
+        return refused(MARKER, d->coloured ? 47 : 23, bit);
     d->height = take(&r, 14);
     d->stereo = take(&r, 2);
     if (d->stereo == 3)
-        return VALUE;
+        return refused(VALUE_STEREO, d->coloured ? 62 : 38, bit);
     return is_stuffed(body, length, d->coloured ? 8 : 5) ? DONE : STUFFING;
 }
 
@@ -238,7 +278,7 @@ typedef struct {
     uint64_t number;
 } copyright;
 
-static uint32_t read_copyright(const uint8_t *body, size_t length, copyright *c)
+static uint32_t read_copyright(const uint8_t *body, size_t length, copyright *c, size_t *bit)
 {
     if (length < 12)
         return SHORT;
@@ -248,16 +288,18 @@ static uint32_t read_copyright(const uint8_t *body, size_t length, copyright *c)
     c->original = take(&r, 1);
     take(&r, 7);
     if (take(&r, 1) == 0)
-        return MARKER;
+        return refused(MARKER, 21, bit);
     c->number = take(&r, 20);
     if (take(&r, 1) == 0)
-        return MARKER;
+        return refused(MARKER, 42, bit);
     c->number = c->number << 22 | take(&r, 22);
     if (take(&r, 1) == 0)
-        return MARKER;
+        return refused(MARKER, 65, bit);
     c->number = c->number << 22 | take(&r, 22);
-    if (c->owner == 0 ? c->number != 0 : c->flag == 0)
-        return VALUE;
+    if (c->flag == 0 && c->owner != 0)
+        return refused(VALUE_COPYRIGHT_OWNER, 5, bit);
+    if (c->owner == 0 && c->number != 0)
+        return refused(VALUE_COPYRIGHT_NUMBER, 22, bit);
     return is_stuffed(body, length, 11) ? DONE : STUFFING;
 }
 
@@ -270,7 +312,7 @@ static extension extension_of(const uint8_t *body, bool in_head)
     return number == 4 ? COPYRIGHT : number == 2 && in_head ? DISPLAY : OPAQUE;
 }
 
-static uint32_t read_extension(const uint8_t *body, size_t length, bool in_head)
+static uint32_t read_extension(const uint8_t *body, size_t length, bool in_head, size_t *bit)
 {
     display d;
     copyright c;
@@ -278,9 +320,9 @@ static uint32_t read_extension(const uint8_t *body, size_t length, bool in_head)
         return SHORT;
     switch (extension_of(body, in_head)) {
     case DISPLAY:
-        return read_display(body, length, &d);
+        return read_display(body, length, &d, bit);
     case COPYRIGHT:
-        return read_copyright(body, length, &c);
+        return read_copyright(body, length, &c, bit);
     case OPAQUE:
         return DONE;
     }
@@ -303,6 +345,7 @@ typedef struct {
     uint32_t status;
     state next;
     size_t end;
+    size_t bit;
 } unit;
 
 static bool all_zero(const uint8_t *body, size_t length)
@@ -320,10 +363,10 @@ static size_t trimmed_length(const uint8_t *body, size_t length)
     return length;
 }
 
-static uint32_t header_step(state *s, const uint8_t *body, size_t length)
+static uint32_t header_step(state *s, const uint8_t *body, size_t length, size_t *bit)
 {
     header h;
-    uint32_t status = read_header(body, length, &h);
+    uint32_t status = read_header(body, length, &h, bit);
     if (status != DONE)
         return status;
     s->where = HEAD;
@@ -333,14 +376,14 @@ static uint32_t header_step(state *s, const uint8_t *body, size_t length)
     return DONE;
 }
 
-static uint32_t head_extension(state *s, const uint8_t *body, size_t length)
+static uint32_t head_extension(state *s, const uint8_t *body, size_t length, size_t *bit)
 {
     if (length != 0 && extension_of(body, true) == DISPLAY) {
         if (s->display && !display_short(body, length))
             return TWICE;
         s->display = true;
     }
-    return read_extension(body, length, true);
+    return read_extension(body, length, true, bit);
 }
 
 static uint32_t picture_step(state *s, const uint8_t *body, size_t length)
@@ -351,12 +394,14 @@ static uint32_t picture_step(state *s, const uint8_t *body, size_t length)
     return DONE;
 }
 
-static uint32_t slice_step(state *s, uint32_t least, uint8_t code, const uint8_t *body, size_t length)
+static uint32_t slice_step(state *s, uint32_t least, uint8_t code, const uint8_t *body, size_t length, size_t *bit)
 {
     if (all_zero(body, length))
         return SHORT;
-    if (s->tested && (code < least || s->rows <= code))
-        return VALUE;
+    if (s->tested && code < least)
+        return refused(VALUE_SLICE_ORDER, 0, bit);
+    if (s->tested && s->rows <= code)
+        return refused(VALUE_SLICE_ROW, 0, bit);
     s->where = SLICES;
     s->least = code + 1u;
     return DONE;
@@ -370,13 +415,13 @@ static uint32_t ending_step(state *s, where next, size_t length)
     return DONE;
 }
 
-static uint32_t in_head(state *s, uint8_t code, const uint8_t *body, size_t length)
+static uint32_t in_head(state *s, uint8_t code, const uint8_t *body, size_t length, size_t *bit)
 {
     switch (code) {
     case 0xB2:
         return DONE;
     case 0xB5:
-        return head_extension(s, body, length);
+        return head_extension(s, body, length, bit);
     case 0xB3:
         return picture_step(s, body, length);
     default:
@@ -384,27 +429,27 @@ static uint32_t in_head(state *s, uint8_t code, const uint8_t *body, size_t leng
     }
 }
 
-static uint32_t in_picture(state *s, uint8_t code, const uint8_t *body, size_t length)
+static uint32_t in_picture(state *s, uint8_t code, const uint8_t *body, size_t length, size_t *bit)
 {
     if (code < 0xB0)
-        return slice_step(s, 0, code, body, length);
+        return slice_step(s, 0, code, body, length, bit);
     if (code == 0xB2)
         return DONE;
     if (code == 0xB5)
-        return read_extension(body, length, false);
+        return read_extension(body, length, false, bit);
     return OUT_OF_PLACE;
 }
 
-static uint32_t after_slice(state *s, uint8_t code, const uint8_t *body, size_t length)
+static uint32_t after_slice(state *s, uint8_t code, const uint8_t *body, size_t length, size_t *bit)
 {
     if (code < 0xB0)
-        return slice_step(s, s->least, code, body, length);
+        return slice_step(s, s->least, code, body, length, bit);
     switch (code) {
     case 0xB3:
     case 0xB6:
         return picture_step(s, body, length);
     case 0xB0:
-        return header_step(s, body, length);
+        return header_step(s, body, length, bit);
     case 0xB1:
         return ending_step(s, ENDED, length);
     case 0xB7:
@@ -414,19 +459,19 @@ static uint32_t after_slice(state *s, uint8_t code, const uint8_t *body, size_t 
     }
 }
 
-static uint32_t step_unit(state *s, uint8_t code, const uint8_t *body, size_t length)
+static uint32_t step_unit(state *s, uint8_t code, const uint8_t *body, size_t length, size_t *bit)
 {
     if (code == 0xB4 || 0xB8 <= code)
         return UNKNOWN;
     switch (s->where) {
     case START:
-        return code == 0xB0 ? header_step(s, body, length) : OUT_OF_PLACE;
+        return code == 0xB0 ? header_step(s, body, length, bit) : OUT_OF_PLACE;
     case HEAD:
-        return in_head(s, code, body, length);
+        return in_head(s, code, body, length, bit);
     case PICTURE:
-        return in_picture(s, code, body, length);
+        return in_picture(s, code, body, length, bit);
     case SLICES:
-        return after_slice(s, code, body, length);
+        return after_slice(s, code, body, length, bit);
     case ENDED:
         return code == 0xB7 ? ending_step(s, CLOSED, length) : OUT_OF_PLACE;
     case CLOSED:
@@ -451,7 +496,7 @@ typedef size_t search(const uint8_t *stream, size_t n, size_t from);
 
 WITH_SEARCH unit unit_at(search next, const uint8_t *stream, size_t n, state s, size_t at)
 {
-    unit u = {DONE, s, 0};
+    unit u = {DONE, s, 0, NO_BIT};
     size_t code_at = at + 3;
     if (!prefix_at(stream, n, at))
         u.status = NO_CODE;
@@ -464,27 +509,27 @@ WITH_SEARCH unit unit_at(search next, const uint8_t *stream, size_t n, state s, 
     u.end = next(stream, n, code_at);
     const uint8_t *body = stream + at + 4;
     size_t length = u.end - (at + 4);
-    u.status = step_unit(&u.next, stream[code_at], body, length);
+    u.status = step_unit(&u.next, stream[code_at], body, length, &u.bit);
     return u;
 }
 
 WITH_SEARCH answer check_units(search next, const uint8_t *stream, size_t n)
 {
     if (!prefix_at(stream, n, 0))
-        return (answer){NO_CODE, 0, 0};
+        return (answer){NO_CODE, 0, 0, NO_BIT};
     state s = {START, false, false, 0, 0};
     size_t at = 0, units = 0;
     while (at < n) {
         unit u = unit_at(next, stream, n, s, at);
         if (u.status != DONE)
-            return (answer){u.status, at, 0};
+            return (answer){u.status, at, 0, u.bit};
         s = u.next;
         at = u.end;
         units++;
     }
     if (s.where == ENDED || s.where == CLOSED)
-        return (answer){DONE, 0, units};
-    return (answer){UNENDED, at, 0};
+        return (answer){DONE, 0, units, NO_BIT};
+    return (answer){UNENDED, at, 0, NO_BIT};
 }
 
 /* No body is read again: of what was checked only heads are to be known. */
@@ -507,12 +552,12 @@ WITH_SEARCH void write_rows(search next, const uint8_t *stream, size_t n, uint32
 WITH_SEARCH answer file(search next, const uint8_t *stream, size_t n, uint32_t *rows, size_t words)
 {
     if (LONGEST_STREAM < n)
-        return (answer){TOO_LONG, 0, 0};
+        return (answer){TOO_LONG, 0, 0, NO_BIT};
     answer a = check_units(next, stream, n);
     if (a.status != DONE)
         return a;
     if (words / 3 < a.count)
-        return (answer){FULL, 0, 0};
+        return (answer){FULL, 0, 0, NO_BIT};
     write_rows(next, stream, n, rows);
     return a;
 }
@@ -567,25 +612,25 @@ static inline size_t fill_last(uint8_t *out, packer p)
 answer plain_remove_escapes(const uint8_t *raw, size_t length, uint8_t *output, size_t room)
 {
     if (LONGEST_PAYLOAD < length)
-        return (answer){TOO_LONG, 0, 0};
+        return (answer){TOO_LONG, 0, 0, NO_BIT};
     if (room < length)
-        return (answer){FULL, 0, 0};
+        return (answer){FULL, 0, 0, NO_BIT};
     packer p = {0, 0, 0};
     size_t zeros = 0;
     for (size_t i = 0; i < length; i++) {
         p = kept_width(zeros, raw[i]) == 8 ? push_bits(output, p, raw[i], 8) : push_bits(output, p, raw[i], 6);
         zeros = raw[i] == 0 ? zeros + 1 : 0;
     }
-    return (answer){DONE, 0, fill_last(output, p)};
+    return (answer){DONE, 0, fill_last(output, p), NO_BIT};
 }
 
 /* Each bit is put at its own place of the output. */
 answer plain_remove_escapes_bitwise(const uint8_t *raw, size_t length, uint8_t *output, size_t room)
 {
     if (LONGEST_PAYLOAD < length)
-        return (answer){TOO_LONG, 0, 0};
+        return (answer){TOO_LONG, 0, 0, NO_BIT};
     if (room < length)
-        return (answer){FULL, 0, 0};
+        return (answer){FULL, 0, 0, NO_BIT};
     size_t zeros = 0, bits = 0;
     for (size_t i = 0; i < length; i++) {
         uint32_t width = kept_width(zeros, raw[i]);
@@ -596,16 +641,16 @@ answer plain_remove_escapes_bitwise(const uint8_t *raw, size_t length, uint8_t *
         }
         zeros = raw[i] == 0 ? zeros + 1 : 0;
     }
-    return (answer){DONE, 0, bits};
+    return (answer){DONE, 0, bits, NO_BIT};
 }
 
 /* Whole bytes: copied while the output is aligned, else shifted in. */
 answer plain_remove_escapes_bytewise(const uint8_t *raw, size_t length, uint8_t *output, size_t room)
 {
     if (LONGEST_PAYLOAD < length)
-        return (answer){TOO_LONG, 0, 0};
+        return (answer){TOO_LONG, 0, 0, NO_BIT};
     if (room < length)
-        return (answer){FULL, 0, 0};
+        return (answer){FULL, 0, 0, NO_BIT};
     packer p = {0, 0, 0};
     size_t zeros = 0;
     for (size_t i = 0; i < length; i++) {
@@ -623,7 +668,7 @@ answer plain_remove_escapes_bytewise(const uint8_t *raw, size_t length, uint8_t 
             p.value &= (1u << p.k) - 1;
         }
     }
-    return (answer){DONE, 0, fill_last(output, p)};
+    return (answer){DONE, 0, fill_last(output, p), NO_BIT};
 }
 
 /* ── bins ── */

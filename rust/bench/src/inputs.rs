@@ -102,6 +102,26 @@ pub fn one_slice(progressive: bool, lines: u32, slice: u8) -> Vec<u8> {
     stream
 }
 
+/// A good recording of two groups with a body of every layout: any field can be ruled out by one byte of it.
+pub fn all_layouts() -> Vec<u8> {
+    const COPYRIGHT: [u8; 12] = [0x48, 0x8C, 0x04, 0x00, 0x00, 0x60, 0x00, 0x01, 0x40, 0x00, 0x03, 0x80];
+    let mut header = HEADER;
+    // 1088 lines.
+    header[4..6].copy_from_slice(&[0x22, 0x02]);
+    let mut stream = Vec::new();
+    for display in [&DISPLAY[..], &COLOURED_DISPLAY] {
+        push_unit(&mut stream, 0xB0, &header);
+        push_unit(&mut stream, 0xB5, display);
+        push_unit(&mut stream, 0xB5, &COPYRIGHT);
+        push_unit(&mut stream, 0xB3, &[0x80]);
+        push_unit(&mut stream, 0xB5, &COPYRIGHT);
+        push_unit(&mut stream, 3, &[0x80]);
+        push_unit(&mut stream, 7, &[0x80]);
+    }
+    push_unit(&mut stream, 0xB1, &[]);
+    stream
+}
+
 /// What stands between a head's display extension and its picture.
 const HEAD_ITEMS: usize = 24;
 

@@ -1,6 +1,6 @@
 //! The library through its C interface, as far as it is measured.
 use avsplus_sys as sys;
-pub use avsplus_sys::{Answer, Bin, Context, Started, State};
+pub use avsplus_sys::{Answer, Bin, Context, Started, State, AVSPLUS_NO_BIT as NO_BIT};
 
 pub fn file(stream: &[u8], rows: &mut [u32]) -> Answer {
     // SAFETY: both slices are lent with their own lengths, and the unique one overlaps nothing.

@@ -1,9 +1,10 @@
 //! The plain Rust rivals: safe, and by the same algorithms. Each entry is a call, as from another crate.
-use crate::library::{Answer, Context, State};
+use crate::library::{Answer, Context, State, NO_BIT};
 pub use crate::plain_rust_filing::file;
 
 /// A status, by the library's numbers.
 pub mod status {
+    pub const DONE: u32 = 0;
     pub const NO_CODE: u32 = 1;
     pub const CUT: u32 = 2;
     pub const OVERLAP: u32 = 3;
@@ -11,7 +12,6 @@ pub mod status {
     pub const OUT_OF_PLACE: u32 = 5;
     pub const SHORT: u32 = 6;
     pub const MARKER: u32 = 7;
-    pub const VALUE: u32 = 8;
     pub const STUFFING: u32 = 9;
     pub const TWICE: u32 = 10;
     pub const UNENDED: u32 = 11;
@@ -19,6 +19,19 @@ pub mod status {
     pub const TOO_LONG: u32 = 13;
     pub const PAYLOAD_OUT: u32 = 14;
     pub const BAD_STATE: u32 = 15;
+    pub const VALUE_WIDTH: u32 = 20;
+    pub const VALUE_HEIGHT: u32 = 21;
+    pub const VALUE_CHROMA: u32 = 22;
+    pub const VALUE_PRECISION: u32 = 23;
+    pub const VALUE_ASPECT: u32 = 24;
+    pub const VALUE_RATE: u32 = 25;
+    pub const VALUE_TRANSFER: u32 = 26;
+    pub const VALUE_MATRIX: u32 = 27;
+    pub const VALUE_STEREO: u32 = 28;
+    pub const VALUE_COPYRIGHT_OWNER: u32 = 29;
+    pub const VALUE_COPYRIGHT_NUMBER: u32 = 30;
+    pub const VALUE_SLICE_ORDER: u32 = 31;
+    pub const VALUE_SLICE_ROW: u32 = 32;
 }
 
 const LONGEST_PAYLOAD: usize = 65536;
@@ -82,6 +95,7 @@ pub fn remove_escapes(raw: &[u8], output: &mut [u8]) -> Answer {
         status,
         offset: 0,
         count: 0,
+        bit: NO_BIT,
     };
     if LONGEST_PAYLOAD < raw.len() {
         return refused(status::TOO_LONG);
@@ -100,6 +114,7 @@ pub fn remove_escapes(raw: &[u8], output: &mut [u8]) -> Answer {
         status: 0,
         offset: 0,
         count: packer.finish(output),
+        bit: NO_BIT,
     }
 }
 

@@ -1,8 +1,25 @@
 //! Filing in plain Rust: two passes, unit by unit, with bodies read by a bit reader.
-use crate::library::Answer;
+use crate::library::{Answer, NO_BIT};
 use crate::plain_rust::{next, status};
 
 const LONGEST_STREAM: usize = 16_777_216;
+
+/// Why a unit is refused, with the bit of its body where a marker or a field is.
+struct Refusal {
+    status: u32,
+    bit: usize,
+}
+
+impl From<u32> for Refusal {
+    /// One that has no bit.
+    fn from(status: u32) -> Refusal {
+        Refusal { status, bit: NO_BIT }
+    }
+}
+
+fn refused<T>(status: u32, bit: usize) -> Result<T, Refusal> {
+    Err(Refusal { status, bit })
+}
 
 // ── bodies ──
 
@@ -26,27 +43,28 @@ impl BitReader<'_> {
         value
     }
 
-    fn marker(&mut self) -> Result<(), u32> {
-        match self.take(1) {
-            1 => Ok(()),
-            _ => Err(status::MARKER),
+    /// A field that is refused with a status where it is not allowed.
+    fn judged(&mut self, width: usize, status: u32, allowed: impl Fn(u32) -> bool) -> Result<u32, Refusal> {
+        let bit = self.place;
+        let value = self.take(width);
+        if allowed(value) {
+            Ok(value)
+        } else {
+            refused(status, bit)
         }
     }
-}
 
-fn ruled_out(found: bool) -> Result<(), u32> {
-    if found {
-        return Err(status::VALUE);
+    fn marker(&mut self) -> Result<u32, Refusal> {
+        self.judged(1, status::MARKER, |one| one == 1)
     }
-    Ok(())
 }
 
 /// The last byte of the fields and what follows it.
-fn stuffed(end: &[u8]) -> Result<(), u32> {
+fn stuffed(end: &[u8]) -> Result<(), Refusal> {
     if end[0] == 128 && end[1..].iter().all(|&byte| byte == 0) {
         return Ok(());
     }
-    Err(status::STUFFING)
+    Err(status::STUFFING.into())
 }
 
 // Records as a caller would want them, though filing asks for progressive and the vertical size alone.
@@ -66,16 +84,18 @@ struct Header {
     buffer: u32,
 }
 
-fn read_header(body: &[u8]) -> Result<Header, u32> {
+fn read_header(body: &[u8]) -> Result<Header, Refusal> {
     if body.len() < 15 {
-        return Err(status::SHORT);
+        return Err(status::SHORT.into());
     }
     let mut bits = BitReader { bytes: body, place: 0 };
     let (profile, level, progressive) = (bits.take(8), bits.take(8), bits.take(1));
-    let (horizontal, vertical) = (bits.take(14), bits.take(14));
-    let (chroma, precision, aspect, rate) = (bits.take(2), bits.take(3), bits.take(4), bits.take(4));
-    ruled_out(horizontal == 0 || vertical == 0 || !(1..=2).contains(&chroma) || precision != 1)?;
-    ruled_out(!(1..=4).contains(&aspect) || !(1..=8).contains(&rate))?;
+    let horizontal = bits.judged(14, status::VALUE_WIDTH, |size| size != 0)?;
+    let vertical = bits.judged(14, status::VALUE_HEIGHT, |size| size != 0)?;
+    let chroma = bits.judged(2, status::VALUE_CHROMA, |chroma| (1..=2).contains(&chroma))?;
+    let precision = bits.judged(3, status::VALUE_PRECISION, |precision| precision == 1)?;
+    let aspect = bits.judged(4, status::VALUE_ASPECT, |aspect| (1..=4).contains(&aspect))?;
+    let rate = bits.judged(4, status::VALUE_RATE, |rate| (1..=8).contains(&rate))?;
     let low = bits.take(18);
     bits.marker()?;
     let bitrate = bits.take(12) << 18 | low;
@@ -113,22 +133,23 @@ fn display_short(body: &[u8]) -> bool {
     body.len() < 6 || (128 <= body[1] && body.len() < 9)
 }
 
-fn read_display(body: &[u8]) -> Result<Display, u32> {
+fn read_display(body: &[u8]) -> Result<Display, Refusal> {
     if display_short(body) {
-        return Err(status::SHORT);
+        return Err(status::SHORT.into());
     }
     let mut bits = BitReader { bytes: body, place: 4 };
     let (format, range) = (bits.take(3), bits.take(1));
     let mut colour = None;
     if bits.take(1) == 1 {
-        let (primaries, transfer, matrix) = (bits.take(8), bits.take(8), bits.take(8));
-        ruled_out(matches!(transfer, 0 | 3 | 11..) || matches!(matrix, 0 | 3 | 8..))?;
+        let primaries = bits.take(8);
+        let transfer = bits.judged(8, status::VALUE_TRANSFER, |transfer| !matches!(transfer, 0 | 3 | 11..))?;
+        let matrix = bits.judged(8, status::VALUE_MATRIX, |matrix| !matches!(matrix, 0 | 3 | 8..))?;
         colour = Some((primaries, transfer, matrix));
     }
     let width = bits.take(14);
     bits.marker()?;
-    let (height, stereo) = (bits.take(14), bits.take(2));
-    ruled_out(stereo == 3)?;
+    let height = bits.take(14);
+    let stereo = bits.judged(2, status::VALUE_STEREO, |stereo| stereo != 3)?;
     stuffed(&body[bits.place / 8..])?;
     Ok(Display {
         format,
@@ -148,9 +169,9 @@ struct Copyright {
     number: u64,
 }
 
-fn read_copyright(body: &[u8]) -> Result<Copyright, u32> {
+fn read_copyright(body: &[u8]) -> Result<Copyright, Refusal> {
     if body.len() < 12 {
-        return Err(status::SHORT);
+        return Err(status::SHORT.into());
     }
     let mut bits = BitReader { bytes: body, place: 4 };
     let (flag, owner, original) = (bits.take(1), bits.take(8), bits.take(1));
@@ -161,7 +182,12 @@ fn read_copyright(body: &[u8]) -> Result<Copyright, u32> {
         bits.marker()?;
         number = number << 22 | u64::from(bits.take(22));
     }
-    ruled_out(if owner == 0 { number != 0 } else { flag == 0 })?;
+    if flag == 0 && owner != 0 {
+        return refused(status::VALUE_COPYRIGHT_OWNER, 5);
+    }
+    if owner == 0 && number != 0 {
+        return refused(status::VALUE_COPYRIGHT_NUMBER, 22);
+    }
     stuffed(&body[11..])?;
     Ok(Copyright {
         flag,
@@ -178,7 +204,7 @@ enum Extension {
     Opaque,
 }
 
-fn read_extension(body: &[u8], in_head: bool) -> Result<Extension, u32> {
+fn read_extension(body: &[u8], in_head: bool) -> Result<Extension, Refusal> {
     match body.first().ok_or(status::SHORT)? >> 4 {
         4 => read_copyright(body).map(Extension::Copyright),
         2 if in_head => read_display(body).map(Extension::Display),
@@ -210,7 +236,7 @@ enum State {
     Closed,
 }
 
-fn header_step(body: &[u8]) -> Result<State, u32> {
+fn header_step(body: &[u8]) -> Result<State, Refusal> {
     let Header {
         progressive, vertical, ..
     } = read_header(body)?;
@@ -225,45 +251,48 @@ fn header_step(body: &[u8]) -> Result<State, u32> {
     Ok(State::Head(rule, false))
 }
 
-fn head_extension(rule: SliceRule, display: bool, body: &[u8]) -> Result<State, u32> {
+fn head_extension(rule: SliceRule, display: bool, body: &[u8]) -> Result<State, Refusal> {
     let is_display = body.first().map_or(false, |byte| byte >> 4 == 2);
     if is_display && display && !display_short(body) {
-        return Err(status::TWICE);
+        return Err(status::TWICE.into());
     }
     read_extension(body, true).map(|_| State::Head(rule, display || is_display))
 }
 
-fn not_all_zero(body: &[u8]) -> Result<(), u32> {
+fn not_all_zero(body: &[u8]) -> Result<(), Refusal> {
     if body.iter().all(|&byte| byte == 0) {
-        return Err(status::SHORT);
+        return Err(status::SHORT.into());
     }
     Ok(())
 }
 
-fn picture_step(rule: SliceRule, body: &[u8]) -> Result<State, u32> {
+fn picture_step(rule: SliceRule, body: &[u8]) -> Result<State, Refusal> {
     not_all_zero(body).map(|()| State::Picture(rule))
 }
 
-fn slice_step(rule: SliceRule, least: u32, code: u8, body: &[u8]) -> Result<State, u32> {
+fn slice_step(rule: SliceRule, least: u32, code: u8, body: &[u8]) -> Result<State, Refusal> {
     not_all_zero(body)?;
     let number = u32::from(code);
-    if rule.tested && (number < least || rule.rows <= number) {
-        return Err(status::VALUE);
+    if rule.tested && number < least {
+        return refused(status::VALUE_SLICE_ORDER, 0);
+    }
+    if rule.tested && rule.rows <= number {
+        return refused(status::VALUE_SLICE_ROW, 0);
     }
     Ok(State::Slices(rule, number + 1))
 }
 
-fn ending_step(body: &[u8], next: State) -> Result<State, u32> {
+fn ending_step(body: &[u8], next: State) -> Result<State, Refusal> {
     if body.is_empty() {
         Ok(next)
     } else {
-        Err(status::STUFFING)
+        Err(status::STUFFING.into())
     }
 }
 
-fn step_unit(state: State, code: u8, body: &[u8]) -> Result<State, u32> {
+fn step_unit(state: State, code: u8, body: &[u8]) -> Result<State, Refusal> {
     match (state, code) {
-        (_, 0xB4 | 0xB8..=0xFF) => Err(status::UNKNOWN),
+        (_, 0xB4 | 0xB8..=0xFF) => Err(status::UNKNOWN.into()),
         (State::Start, 0xB0) => header_step(body),
         (State::Head(..), 0xB2) => Ok(state),
         (State::Head(rule, display), 0xB5) => head_extension(rule, display, body),
@@ -277,7 +306,7 @@ fn step_unit(state: State, code: u8, body: &[u8]) -> Result<State, u32> {
         (State::Slices(..), 0xB1) => ending_step(body, State::Ended),
         (State::Slices(..), 0xB7) => ending_step(body, State::Closed),
         (State::Ended, 0xB7) => ending_step(body, State::Closed),
-        _ => Err(status::OUT_OF_PLACE),
+        _ => Err(status::OUT_OF_PLACE.into()),
     }
 }
 
@@ -290,14 +319,14 @@ fn row_length(in_head: bool, code: u8, body: &[u8]) -> usize {
 }
 
 /// The state after a unit, and where it ends.
-fn unit_at(stream: &[u8], state: State, at: usize) -> Result<(State, usize), u32> {
+fn unit_at(stream: &[u8], state: State, at: usize) -> Result<(State, usize), Refusal> {
     let rest = &stream[at..];
     if !rest.starts_with(&[0, 0, 1]) {
-        return Err(status::NO_CODE);
+        return Err(status::NO_CODE.into());
     }
     let code = *rest.get(3).ok_or(status::CUT)?;
     if rest[3..].starts_with(&[0, 0, 1]) {
-        return Err(status::OVERLAP);
+        return Err(status::OVERLAP.into());
     }
     let end = next(stream, at + 3);
     step_unit(state, code, &stream[at + 4..end]).map(|after| (after, end))
@@ -306,12 +335,12 @@ fn unit_at(stream: &[u8], state: State, at: usize) -> Result<(State, usize), u32
 // ── filing ──
 
 /// The number of units, or a refusal and its offset.
-fn check(stream: &[u8]) -> Result<usize, (u32, usize)> {
+fn check(stream: &[u8]) -> Result<usize, (Refusal, usize)> {
     if LONGEST_STREAM < stream.len() {
-        return Err((status::TOO_LONG, 0));
+        return Err((status::TOO_LONG.into(), 0));
     }
     if !stream.starts_with(&[0, 0, 1]) {
-        return Err((status::NO_CODE, 0));
+        return Err((status::NO_CODE.into(), 0));
     }
     let (mut state, mut at, mut units) = (State::Start, 0, 0);
     while at < stream.len() {
@@ -322,7 +351,7 @@ fn check(stream: &[u8]) -> Result<usize, (u32, usize)> {
     }
     match state {
         State::Ended | State::Closed => Ok(units),
-        _ => Err((status::UNENDED, at)),
+        _ => Err((status::UNENDED.into(), at)),
     }
 }
 
@@ -341,12 +370,17 @@ fn write_rows(stream: &[u8], rows: &mut [u32]) {
 
 #[inline(never)]
 pub fn file(stream: &[u8], rows: &mut [u32]) -> Answer {
-    let answer = |status, offset, count| Answer { status, offset, count };
+    let answer = |why: Refusal, offset, count| Answer {
+        status: why.status,
+        offset,
+        count,
+        bit: why.bit,
+    };
     match check(stream) {
-        Ok(units) if rows.len() / 3 < units => answer(status::FULL, 0, 0),
+        Ok(units) if rows.len() / 3 < units => answer(status::FULL.into(), 0, 0),
         Ok(units) => {
             write_rows(stream, &mut rows[..units * 3]);
-            answer(0, 0, units)
+            answer(status::DONE.into(), 0, units)
         }
         Err((why, offset)) => answer(why, offset, 0),
     }

@@ -1,8 +1,9 @@
 //! The rows of the table. Each first checks that all rivals answer alike.
 use crate::inputs::{self, Random, Shape};
-use crate::library::{self, Answer};
+use crate::library::{self, Answer, NO_BIT};
 use crate::measure::{measure, Measured, Rival, Work, LIBRARY, SAME};
 use crate::{plain_c, plain_rust};
+use std::collections::BTreeSet;
 
 const BY_THREE: &str = "plain C, steps of three";
 const BIT_BY_BIT: &str = "plain C, bit by bit";
@@ -60,6 +61,7 @@ fn measure_filing(row: &'static str, scale: Scale, stream: &[u8], small: &[u8]) 
     let words = check_filing(stream);
     check_refusals(small);
     check_last_slices();
+    check_bits();
     let rivals = FILE.iter().map(|&(name, file)| {
         let mut rows = vec![UNTOUCHED; words];
         let run = Box::new(move || file(stream, &mut rows).count as u64);
@@ -117,6 +119,26 @@ fn check_last_slices() {
             }
         }
     }
+}
+
+/// How many bits there are that a refusal can carry, each counted once for each status.
+const BITS: usize = 21;
+
+/// Rivals refuse each field and marker with the library's status and bit: every byte of two small groups takes every value.
+fn check_bits() {
+    let good = inputs::all_layouts();
+    let mut met = BTreeSet::new();
+    for (at, value) in (0..good.len()).flat_map(|at| (0..=u8::MAX).map(move |value| (at, value))) {
+        let mut stream = good.clone();
+        stream[at] = value;
+        let expected = filed(library::file, &stream, 60);
+        for (name, file) in FILE {
+            assert!(filed(file, &stream, 60) == expected, "{}: another status or bit", name);
+        }
+        met.insert((expected.0.status, expected.0.bit));
+    }
+    met.retain(|(_, bit)| *bit != NO_BIT);
+    assert_eq!(met.len(), BITS, "bits that were met");
 }
 
 // ── start codes ──
