@@ -4,14 +4,12 @@
 Reads the questions (not the code) from crates/run_units/src/main.rt and prints what the program must print. The gate holds
 this to crates/run_units/stdout, and rt ci holds the program to that file.
 
-A refusal is three numbers. The first is its own; a marker's third is its bit; a value's second is the field's place in its
-layout (for a display extension, the one with colour), counted from 1, and its third the field's first bit. The copyright number
-is the twelfth field; a slice's value has 1 for its order and 2 for its row.
+A refusal is its number and its bit, - where it carries none.
     unit STATE AT                   the unit's end, its row's length and the state after it; none and the refusal; none for no unit
-    body 0 BYTES                    0 0 0 for a good sequence header, or the refusal
+    body 0 BYTES                    header for a good sequence header, or the refusal
     body 1 to 3 BYTES               whether the number is 2, whether that is too short, whether it is opaque in a head and after a
-                                    picture; then, read in a head and after a picture: 0 2 0 for a display extension, 0 4 0 for a
-                                    copyright extension, 0 1 and the number of an opaque one, or the refusal
+                                    picture; then, read in a head and after a picture: display, copyright, opaque and the number,
+                                    or the refusal
 A state is 0 before all, 1 in a head, 2 in a picture, 3 after a slice, 4 after B1, 5 after B7; 1 to 3 with the slices' rule
 (tested, rows) and whether a display extension was read (1) or the least slice that may follow (3).
 """
@@ -21,22 +19,26 @@ from questions import Questions, bits_of, hexed
 
 ASKED = Questions("run_units")
 PREFIX = b"\0\0\1"
-CUT, OVERLAP, UNKNOWN, OUT_OF_PLACE, SHORT, MARKER, VALUE, STUFFING, TWICE = range(2, 11)
+CUT, OVERLAP, UNKNOWN, OUT_OF_PLACE, SHORT, MARKER = range(2, 8)
+STUFFING, TWICE = 9, 10
+COPYRIGHT_OWNER, COPYRIGHT_NUMBER, SLICE_ORDER, SLICE_ROW = range(29, 33)
 START, HEAD, PICTURE, SLICES, ENDED, CLOSED = range(6)
-SLICE_ORDER, SLICE_ROW = 1, 2
 
 
 class Refused(Exception):
-    """A refusal: its number, and what a Rattle caller is told with it."""
+    """A refusal: its number and its bit."""
 
 
-def refuse(good, number, field=0, bit=0):
+def refuse(good, number, bit="-"):
     if not good:
-        raise Refused(number, field, bit)
+        raise Refused(number, bit)
 
 
 # ── layouts ──
 
+# a field is its name, its width and which values it may have; other values are refused with the number that its name has here
+VALUE = {"horizontal": 20, "vertical": 21, "chroma": 22, "precision": 23, "aspect": 24, "rate": 25, "transfer": 26, "matrix": 27,
+         "stereo": 28}
 ANY = None
 HEADER = [("profile", 8, ANY), ("level", 8, ANY), ("progressive", 1, ANY), ("horizontal", 14, lambda v: v != 0),
           ("vertical", 14, lambda v: v != 0), ("chroma", 2, lambda v: v in (1, 2)), ("precision", 3, lambda v: v == 1),
@@ -50,19 +52,20 @@ COPYRIGHT = [("number", 4, ANY), ("flag", 1, ANY), ("owner", 8, ANY), ("original
              ("marker", 1, ANY), ("one", 20, ANY), ("marker", 1, ANY), ("two", 22, ANY), ("marker", 1, ANY), ("three", 22, ANY)]
 
 
-def place_in(layout, name):
-    return [field[0] for field in layout].index(name) + 1
+def first_bit(layout, name):
+    before = [field[0] for field in layout].index(name)
+    return sum(width for _, width, _ in layout[:before])
 
 
-def fields(body, layout, named):
-    """The record of a body's fields, or its first fault in bit order. `named` is the layout that numbers the fields."""
+def fields(body, layout):
+    """The record of a body's fields, or its first fault in bit order."""
     bits, at, record = bits_of(body), 0, {}
     for name, width, allowed in layout:
         value = int(bits[at:at + width], 2)
         if name == "marker":
-            refuse(value == 1, MARKER, 0, at)
+            refuse(value == 1, MARKER, at)
         elif allowed:
-            refuse(allowed(value), VALUE, place_in(named, name), at)
+            refuse(allowed(value), VALUE[name], at)
         record[name] = value
         at += width
     return record
@@ -76,7 +79,7 @@ def stuffed(body, layout):
 
 def read_header(body):
     refuse(len(body) >= 15, SHORT)
-    record = fields(body, HEADER, HEADER)
+    record = fields(body, HEADER)
     stuffed(body, HEADER)
     return record
 
@@ -88,19 +91,19 @@ def display_short(body):
 def read_display(body):
     refuse(not display_short(body), SHORT)
     layout = COLOURED if body[1] >= 0x80 else PLAIN
-    fields(body, layout, COLOURED)
+    fields(body, layout)
     stuffed(body, layout)
-    return [0, 2, 0]
+    return ["display"]
 
 
 def read_copyright(body):
     refuse(len(body) >= 12, SHORT)
-    c = fields(body, COPYRIGHT, COPYRIGHT)
+    c = fields(body, COPYRIGHT)
     number = c["one"] * 2 ** 44 + c["two"] * 2 ** 22 + c["three"]
-    refuse(c["flag"] == 1 or c["owner"] == 0, VALUE, place_in(COPYRIGHT, "owner"), 5)
-    refuse(c["owner"] != 0 or number == 0, VALUE, len(COPYRIGHT) + 1, 22)
+    refuse(c["flag"] == 1 or c["owner"] == 0, COPYRIGHT_OWNER, first_bit(COPYRIGHT, "owner"))
+    refuse(c["owner"] != 0 or number == 0, COPYRIGHT_NUMBER, first_bit(COPYRIGHT, "one"))
     stuffed(body, COPYRIGHT)
-    return [0, 4, 0]
+    return ["copyright"]
 
 
 def is_opaque(body, head):
@@ -110,7 +113,7 @@ def is_opaque(body, head):
 def read_extension(body, head):
     refuse(body, SHORT)
     if is_opaque(body, head):
-        return [0, 1, body[0] >> 4]
+        return ["opaque", body[0] >> 4]
     return read_copyright(body) if body[0] >> 4 == 4 else read_display(body)
 
 
@@ -127,7 +130,7 @@ def bodies():
         body[place] = byte
         body = bytes(body[:lent])
         if kind == 0:
-            said = answer(lambda: read_header(body) and [0, 0, 0])
+            said = answer(lambda: read_header(body) and ["header"])
         else:
             said = [int(body[:1] and body[0] >> 4 == 2 or 0), int(display_short(body)), int(is_opaque(body, True)), int(is_opaque(body, False)),
                     *answer(read_extension, body, True), *answer(read_extension, body, False)]
@@ -156,8 +159,8 @@ def take_extension(state, body):
 def take_slice(state, code, body):
     at, tested, rows, least = state
     refuse(any(body), SHORT)
-    refuse(not tested or at == PICTURE or code >= least, VALUE, SLICE_ORDER)
-    refuse(not tested or code < rows, VALUE, SLICE_ROW)
+    refuse(not tested or at == PICTURE or code >= least, SLICE_ORDER, 0)
+    refuse(not tested or code < rows, SLICE_ROW, 0)
     return [SLICES, tested, rows, code + 1]
 
 
@@ -178,7 +181,7 @@ def take(state, code, body):
     if code == 0xB1 and at == SLICES or code == 0xB7 and at in (SLICES, ENDED):
         refuse(not body, STUFFING)
         return [ENDED if code == 0xB1 else CLOSED]
-    raise Refused(OUT_OF_PLACE, 0, 0)
+    raise Refused(OUT_OF_PLACE, "-")
 
 
 def unit(stream, state, at):
@@ -195,8 +198,9 @@ def unit(stream, state, at):
     return [end, len(body) if whole else len(body.rstrip(b"\0")), *after]
 
 
-# the program's function `state`
-STATES = [[START], [HEAD, 1, 68, 0], [HEAD, 1, 68, 1], [PICTURE, 1, 68, 0], [SLICES, 1, 68, 6], [SLICES, 0, 176, 68], [ENDED], [CLOSED]]
+# the program's function `state`; no stream leads to the last, in which slice 5 breaks both order and row
+STATES = [[START], [HEAD, 1, 68, 0], [HEAD, 1, 68, 1], [PICTURE, 1, 68, 0], [SLICES, 1, 68, 6], [SLICES, 0, 176, 68], [ENDED], [CLOSED],
+          [SLICES, 1, 5, 6]]
 
 
 def units():
