@@ -119,7 +119,7 @@ def layout_fields(layout):
     at = 0
     for item in body.replace("marker", marker).split("∷")[:-1]:
         name, width, rule = re.fullmatch(r"field (\w+) (\d+) (.*)", item.strip()).groups()
-        yield at, int(width), name, re.findall(r"\w+", rule)
+        yield at, int(width), name, re.findall(r"\w+", rule.replace("value.", ""))
         at += int(width)
 
 
