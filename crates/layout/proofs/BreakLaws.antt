@@ -35,7 +35,7 @@ use Rattle.layout.specs.declared.Fault.{Fault}
 use Rattle.layout.specs.declared.Fault.the-variants as fault
 use Rattle.layout.specs.declared.Verdict.{Verdict}
 use Rattle.layout.specs.declared.Verdict.the-variants.{Fine, Faulty}
-use Rattle.layout.proofs.LayoutLaws.{table, fits-length, spelled}
+use Rattle.layout.proofs.LayoutLaws.{table, fits-length, spelled, owner-begins, number-begins, owner-at, number-at}
 use Rattle.layout.proofs.ReadingLaws.{values-first}
 use Rattle.layout.proofs.JudgeLaws.{checked, reading-short, reading-long}
 use Rattle.layout.proofs.OwnerLaws.{unowned-rules, owned-rules}
@@ -189,15 +189,15 @@ disowned c why e =
     (λ t.
     let o = eqb-true (c .owner) 0 t in
     let r = if-same (not (eqb (c .number) 0)) (fault.Value CopyrightNumber 22) why (sym (unowned-rules c o refl) ∙ e) in
-    unowned o (eqb-false (c .number) 0 (not-true _ (r .0))) (r .1))
+    unowned o (eqb-false (c .number) 0 (not-true _ (r .0))) 22 number-begins (r .1))
     (λ n.
     let o = eqb-false (c .owner) 0 n in
     let r = if-same (eqb (c .flag) 0) (fault.Value CopyrightOwner 5) why (sym (owned-rules c o refl) ∙ e) in
-    unflagged (eqb-true (c .flag) 0 (r .0)) o (r .1))
+    unflagged (eqb-true (c .flag) 0 (r .0)) o 5 owner-begins (r .1))
 
 disowned-rules : (c : Ownership) (why : Fault) → Disowned c why → ownerRules c ≡ Faulty why
-disowned-rules c why (unflagged f o e) = owned-rules c o (eq-eqb (c .flag) 0 f) ∙ ap Faulty (sym e)
-disowned-rules c why (unowned o n e) = unowned-rules c o (ne-eqb (c .number) 0 n) ∙ ap Faulty (sym e)
+disowned-rules c why (unflagged f o at b e) = owned-rules c o (eq-eqb (c .flag) 0 f) ∙ ap (λ (k : ℕ). Faulty (fault.Value CopyrightOwner k)) (sym (owner-at at b)) ∙ ap Faulty (sym e)
+disowned-rules c why (unowned o n at b e) = unowned-rules c o (ne-eqb (c .number) 0 n) ∙ ap (λ (k : ℕ). Faulty (fault.Value CopyrightNumber k)) (sym (number-at at b)) ∙ ap Faulty (sym e)
 
 -- the record is there, since there are as many values as fields
 across-record : (vs : List ℕ) (o : Option Ownership) (why : Fault) → ownership vs ≡ o → ownedBy o ≡ Faulty why → (ownership vs ≡ none → ⊥) →
@@ -276,8 +276,8 @@ rule-not-short rule.Set v at (n, e) = let z : _≡_ {A = ℕ} 0 1 = cc in omega 
 rule-not-short (rule.Judged field values) v at (n, e) = let z : _≡_ {A = ℕ} 0 1 = cc in omega arith
 
 disowned-not-short : (c : Ownership) → Disowned c fault.Short → ⊥
-disowned-not-short c (unflagged f o e) = let z : _≡_ {A = ℕ} 0 1 = cc in omega arith
-disowned-not-short c (unowned o n e) = let z : _≡_ {A = ℕ} 0 1 = cc in omega arith
+disowned-not-short c (unflagged f o at b e) = let z : _≡_ {A = ℕ} 0 1 = cc in omega arith
+disowned-not-short c (unowned o n at b e) = let z : _≡_ {A = ℕ} 0 1 = cc in omega arith
 
 across-not-short : (layout : Layout) (vs : List ℕ) → BreaksAcross layout vs fault.Short → ⊥
 unfolding BreaksAcross

@@ -1,13 +1,17 @@
 -- What holds of the four layouts, and of fields and their values.
 use Prim.Native.Nat.{ℕ, zero, suc, _+_, _*_, _^_, _≤_, _<_}
-use mathlib.Core.Path.{_≡_, refl, sym, ap, subst}
-use mathlib.Core.List.{List, [], _∷_}
+use mathlib.Core.Path.{_≡_, refl, sym, ap, _∙_, subst}
+use mathlib.Core.Logic.{_≢_}
+use mathlib.Core.List.{List, [], _∷_, _++_}
 use native.Mathlib.Omega.{arith}
-use lib.ListN.{length, getD, drop, drop-of-length-le}
+use lib.ListN.{length, getD, take, drop, drop-of-length-le}
 use lib.Seq.{drop-cons}
 use Rattle.bits.specs.Lists.{All}
-use Rattle.layout.specs.Layouts.{widthOf, marker, fields, bitCount, leastBytes}
+use Rattle.layout.specs.Layouts.{field, nameOf, widthOf, marker, copyrightFields, fields, bitCount, Begins, leastBytes}
 use Rattle.layout.specs.Obeys.{Each, Fits}
+use Rattle.layout.specs.declared.Name.{Name}
+use Rattle.layout.specs.declared.Name.the-variants as name
+use Rattle.layout.specs.declared.Rule.the-variants as rule
 use Rattle.layout.specs.declared.Field.{Field}
 use Rattle.layout.specs.declared.Layout.{Layout}
 use Rattle.layout.specs.declared.Layout.the-variants.{Header, Display, Coloured, Copyright}
@@ -85,3 +89,64 @@ spell-rest (suc n) i l e = rw (drop-cons l i 0 (omega arith), spell-rest n (suc 
 -- a list of n elements is those elements
 pub spelled : (n : ℕ) (l : List ℕ) → length l ≡ n → l ≡ spell n 0 l
 spelled n l e = spell-rest n 0 l (omega arith)
+
+-- ── where a field begins ──
+
+clash : {P : Type 0} → _≡_ {A = ℕ} 0 1 → P
+clash z = absurd (omega arith)
+
+-- a field whose name no other field of its layout has stands in one place
+module _ (name : Name) where
+  abbrev Without : List Field → Type 0
+  Without fs = All (λ (f : Field). nameOf f ≢ name) fs
+
+  absent : (fs before : List Field) (g : Field) (after : List Field) → Without fs → nameOf g ≡ name → fs ≡ before ++ (g ∷ after) → ⊥
+  absent [] [] g after w n e = clash cc
+  absent [] (b ∷ before) g after w n e = clash cc
+  absent (f ∷ fs) [] g after w n e = let i : f ≡ g = cc in w .0 (ap nameOf i ∙ n)
+  absent (f ∷ fs) (b ∷ before) g after w n e = absent fs before g after (w .1) n cc
+
+  alone : (xs : List Field) (f : Field) (ys before : List Field) (g : Field) (after : List Field) → Without xs → Without ys → nameOf g ≡ name →
+      xs ++ (f ∷ ys) ≡ before ++ (g ∷ after) → before ≡ xs
+  alone [] f ys [] g after w v n e = refl
+  alone [] f ys (b ∷ before) g after w v n e = absurd (absent ys before g after v n cc)
+  alone (x ∷ xs) f ys [] g after w v n e = let i : x ≡ g = cc in absurd (w .0 (ap nameOf i ∙ n))
+  alone (x ∷ xs) f ys (b ∷ before) g after w v n e =
+      let i : b ≡ x = cc in
+      let r = alone xs f ys before g after (w .1) (v) n cc in
+      rw (i, r)
+
+-- the owner and part one of a copyright extension
+abbrev beforeOwner : List Field
+beforeOwner = take 2 copyrightFields
+
+abbrev beforePartOne : List Field
+beforePartOne = take 6 copyrightFields
+
+pub owner-begins : Begins Copyright name.Owner 5
+unfolding fields
+owner-begins = record { before = beforeOwner; it = field name.Owner 8 rule.Any; after = drop 3 copyrightFields; all = refl; named = refl; sum = refl }
+
+pub number-begins : Begins Copyright name.PartOne 22
+unfolding fields
+number-begins = record { before = beforePartOne; it = field name.PartOne 20 rule.Any; after = drop 7 copyrightFields; all = refl; named = refl; sum = refl }
+
+pub owner-at : (at : ℕ) → Begins Copyright name.Owner at → at ≡ 5
+unfolding fields
+owner-at at b =
+    b .sum
+    ∙ ap bitCount
+    (alone name.Owner beforeOwner (field name.Owner 8 rule.Any) (drop 3 copyrightFields) (b .before) (b .it) (b .after)
+    ((λ e. clash cc), ((λ e. clash cc), tt))
+    ((λ e. clash cc), ((λ e. clash cc), ((λ e. clash cc), ((λ e. clash cc), ((λ e. clash cc), ((λ e. clash cc), ((λ e. clash cc), ((λ e. clash cc), tt))))))))
+    (b .named) (b .all))
+
+pub number-at : (at : ℕ) → Begins Copyright name.PartOne at → at ≡ 22
+unfolding fields
+number-at at b =
+    b .sum
+    ∙ ap bitCount
+    (alone name.PartOne beforePartOne (field name.PartOne 20 rule.Any) (drop 7 copyrightFields) (b .before) (b .it) (b .after)
+    ((λ e. clash cc), ((λ e. clash cc), ((λ e. clash cc), ((λ e. clash cc), ((λ e. clash cc), ((λ e. clash cc), tt))))))
+    ((λ e. clash cc), ((λ e. clash cc), ((λ e. clash cc), ((λ e. clash cc), tt))))
+    (b .named) (b .all))

@@ -4,7 +4,7 @@ use mathlib.Core.Path.{_≡_, refl, sym, ap, _∙_, subst}
 use mathlib.Core.List.{List, [], _∷_, _++_}
 use native.Mathlib.Omega.{arith}
 use Rattle.bits.specs.Lists.{All}
-use Rattle.layout.specs.Layouts.{field, nameOf, widthOf, ruleOf, marker, Wrong, fields, bitCount, Begins, placedAt}
+use Rattle.layout.specs.Layouts.{nameOf, widthOf, ruleOf, Wrong, fields, bitCount, Begins, placedAt}
 use Rattle.layout.specs.Values.{Ownership}
 use Rattle.layout.specs.Breaks.{FirstWrong, Disowned, unflagged, unowned, BreaksAcross, Breaks, short, wrong, across, ended}
 use Rattle.layout.specs.declared.Name.{Name}
@@ -18,7 +18,6 @@ use Rattle.layout.specs.declared.Layout.{Layout}
 use Rattle.layout.specs.declared.Layout.the-variants.{Header, Display, Coloured, Copyright}
 use Rattle.layout.specs.declared.Fault.{Fault}
 use Rattle.layout.specs.declared.Fault.the-variants as fault
-use Rattle.layout.proofs.LayoutLaws.{table}
 
 -- ── the names of judged fields ──
 
@@ -102,26 +101,10 @@ value-same : (a b : JudgedField) (p q : ℕ) → fault.Value a p ≡ fault.Value
 value-same a b p q e = (cc, cc)
 
 -- the rules across a copyright extension's fields
-owner-begins : Begins Copyright name.Owner 5
-unfolding fields
-owner-begins = record { before = field name.Number 4 rule.Any ∷ field name.Flag 1 rule.Any ∷ []; it = field name.Owner 8 rule.Any; after = _; all = refl; named = refl; sum = refl }
-
-number-begins : Begins Copyright name.PartOne 22
-unfolding fields
-number-begins =
-    record {
-      before = field name.Number 4 rule.Any ∷ field name.Flag 1 rule.Any ∷ field name.Owner 8 rule.Any ∷ field name.Original 1 rule.Any ∷ field name.Reserved 7 rule.Any ∷ marker ∷ [];
-      it = field name.PartOne 20 rule.Any;
-      after = _;
-      all = refl;
-      named = refl;
-      sum = refl;
-    }
-
 disowned-begins : (c : Ownership) (field : JudgedField) (place : ℕ) → Disowned c (fault.Value field place) → Begins Copyright (placedAt field) place
 unfolding placedAt
-disowned-begins c field place (unflagged f o e) = let (i, j) = value-same field value.CopyrightOwner place 5 e in rw (i, j) owner-begins
-disowned-begins c field place (unowned o n e) = let (i, j) = value-same field value.CopyrightNumber place 22 e in rw (i, j) number-begins
+disowned-begins c field place (unflagged f o at b e) = let (i, j) = value-same field value.CopyrightOwner place at e in rw (i, j) b
+disowned-begins c field place (unowned o n at b e) = let (i, j) = value-same field value.CopyrightNumber place at e in rw (i, j) b
 
 across-begins : (layout : Layout) (vs : List ℕ) (field : JudgedField) (place : ℕ) → BreaksAcross layout vs (fault.Value field place) → Begins layout (placedAt field) place
 unfolding BreaksAcross
@@ -135,8 +118,8 @@ unfolding BreaksAcross
 across-no-marker Header vs place h = h
 across-no-marker Display vs place h = h
 across-no-marker Coloured vs place h = h
-across-no-marker Copyright vs place (c, o, unflagged f g e) = let z : _≡_ {A = ℕ} 0 1 = cc in omega arith
-across-no-marker Copyright vs place (c, o, unowned f g e) = let z : _≡_ {A = ℕ} 0 1 = cc in omega arith
+across-no-marker Copyright vs place (c, o, unflagged f g at b e) = let z : _≡_ {A = ℕ} 0 1 = cc in omega arith
+across-no-marker Copyright vs place (c, o, unowned f g at b e) = let z : _≡_ {A = ℕ} 0 1 = cc in omega arith
 
 -- ── the whole ──
 

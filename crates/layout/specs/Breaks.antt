@@ -7,9 +7,10 @@ use mathlib.Core.List.{List, [], _∷_, _++_}
 use mathlib.Core.Option.{some}
 use lib.ListN.{length, replicate}
 use Rattle.bits.specs.Bits.{bitsOf}
-use Rattle.layout.specs.Layouts.{ruleOf, Wrong, fields, bitCount, leastBytes}
+use Rattle.layout.specs.Layouts.{ruleOf, Wrong, fields, bitCount, Begins, leastBytes}
 use Rattle.layout.specs.Values.{Ownership, ownership}
 use Rattle.layout.specs.Obeys.{Fits, AllAllowed, Crossed, written}
+use Rattle.layout.specs.declared.Name.the-variants.{Owner, PartOne}
 use Rattle.layout.specs.declared.JudgedField.the-variants.{CopyrightOwner, CopyrightNumber}
 use Rattle.layout.specs.declared.Field.{Field}
 use Rattle.layout.specs.declared.Layout.{Layout}
@@ -38,10 +39,10 @@ pub record FirstWrong (fs : List Field) (at : ℕ) (vs : List ℕ) (why : Fault)
   pub broken : Wrong (ruleOf field) value (at + bitCount before) why
 
 -- After the last field of a copyright extension, VALUE of the owner if flag 0 with owner not 0, VALUE of the copyright number if owner 0
--- with number not 0. Owner begins at bit 5, part one at bit 22 (`value-begins`).
+-- with number not 0. The place is the first bit of the owner, and of part one for the number.
 pub data Disowned (c : Ownership) (why : Fault) : Type 0 where
-  unflagged : c .flag ≡ 0 → c .owner ≢ 0 → why ≡ fault.Value CopyrightOwner 5 → Disowned c why
-  unowned : c .owner ≡ 0 → c .number ≢ 0 → why ≡ fault.Value CopyrightNumber 22 → Disowned c why
+  unflagged : c .flag ≡ 0 → c .owner ≢ 0 → (at : ℕ) → Begins Copyright Owner at → why ≡ fault.Value CopyrightOwner at → Disowned c why
+  unowned : c .owner ≡ 0 → c .number ≢ 0 → (at : ℕ) → Begins Copyright PartOne at → why ≡ fault.Value CopyrightNumber at → Disowned c why
 
 -- a rule across fields is broken
 unfoldable pub BreaksAcross : Layout → List ℕ → Fault → Type 0

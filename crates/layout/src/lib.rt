@@ -325,7 +325,8 @@ fn read_field(field: Field, body: &[u8], at: usize) -> FieldReading
 {
     let width = field.1;
     let rule = field.2;
-    match bits::read_bits(body, at + wide(width), at, width) {
+    let end = at + wide(width);
+    match bits::read_bits(body, end, at, width) {
         Read::Value(value) => match ruled_on(rule, value, at) {
             Verdict::Fine => FieldReading::Value(value),
             Verdict::Faulty(fault) => FieldReading::Faulty(fault),

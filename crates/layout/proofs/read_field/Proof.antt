@@ -37,8 +37,8 @@ judged c w e =
 wide-requires : tie.Need-wide-requires
 wide-requires c κs = search needs
 
-add-read-bits : tie.Need-add-read-bits
-add-read-bits c = search needs
+add-end : tie.Need-add-end
+add-end c = search needs
 
 read-bits-requires : tie.Need-read-bits-requires
 read-bits-requires c κs = search needs
@@ -78,7 +78,7 @@ read-field-spec =
     tie.close
     (tie.spec
     wide-requires
-    add-read-bits
+    add-end
     read-bits-requires
     enum-known-value
     ruled-on-requires
