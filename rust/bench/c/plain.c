@@ -345,7 +345,6 @@ typedef struct {
     uint32_t status;
     state next;
     size_t end;
-    size_t bit;
 } unit;
 
 static bool all_zero(const uint8_t *body, size_t length)
@@ -494,9 +493,9 @@ typedef size_t search(const uint8_t *stream, size_t n, size_t from);
 /* Always inlined, so that the search is a direct call and not one by its pointer. */
 #define WITH_SEARCH static inline __attribute__((always_inline))
 
-WITH_SEARCH unit unit_at(search next, const uint8_t *stream, size_t n, state s, size_t at)
+WITH_SEARCH unit unit_at(search next, const uint8_t *stream, size_t n, state s, size_t at, size_t *bit)
 {
-    unit u = {DONE, s, 0, NO_BIT};
+    unit u = {DONE, s, 0};
     size_t code_at = at + 3;
     if (!prefix_at(stream, n, at))
         u.status = NO_CODE;
@@ -509,7 +508,7 @@ WITH_SEARCH unit unit_at(search next, const uint8_t *stream, size_t n, state s, 
     u.end = next(stream, n, code_at);
     const uint8_t *body = stream + at + 4;
     size_t length = u.end - (at + 4);
-    u.status = step_unit(&u.next, stream[code_at], body, length, &u.bit);
+    u.status = step_unit(&u.next, stream[code_at], body, length, bit);
     return u;
 }
 
@@ -518,11 +517,11 @@ WITH_SEARCH answer check_units(search next, const uint8_t *stream, size_t n)
     if (!prefix_at(stream, n, 0))
         return (answer){NO_CODE, 0, 0, NO_BIT};
     state s = {START, false, false, 0, 0};
-    size_t at = 0, units = 0;
+    size_t at = 0, units = 0, bit = NO_BIT;
     while (at < n) {
-        unit u = unit_at(next, stream, n, s, at);
+        unit u = unit_at(next, stream, n, s, at, &bit);
         if (u.status != DONE)
-            return (answer){u.status, at, 0, u.bit};
+            return (answer){u.status, at, 0, bit};
         s = u.next;
         at = u.end;
         units++;
