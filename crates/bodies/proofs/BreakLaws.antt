@@ -6,8 +6,8 @@ use mathlib.Core.List.{List, [], _∷_}
 use mathlib.Core.Bool.{true, false, cond, _&&_, _||_, or-true, false≢true}
 use mathlib.Core.Option.{Option, some}
 use native.Mathlib.Omega.{arith}
-use borrow.Author.Tests.{eqb-true, eqb-false, ltb-true, ltb-false, lt-ltb}
-use lib.Dec.{eqb, ltb}
+use borrow.Author.Tests.{eqb-true, eqb-false, ltb-true, lt-ltb}
+use lib.Dec.{eqb}
 use lib.ListN.{length}
 use Rattle.answers.proofs.ResultLaws.{not-bad}
 use Rattle.answers.specs.Answers.{Carried, refused, SHORT}

@@ -19,7 +19,7 @@ use Rattle.bodies.proofs.BreakLaws.{value-over}
 use Rattle.bodies.proofs.SaysLaws.{faultOf, fault-of}
 use Rattle.layout.specs.declared.JudgedField.{JudgedField}
 use Rattle.layout.specs.declared.Fault.the-variants as fault
-use Rattle.grammar.specs.Grammar.{StreamUnit, Reading, Reads, units}
+use Rattle.grammar.specs.Grammar.{Reading, Reads, units}
 use Rattle.grammar.specs.Rows.{Placed, placedUnits, rowsFrom, words, rows}
 use Rattle.grammar.specs.Reasons.{reasonNumber, reasonBit, carries, ByNumber}
 use Rattle.grammar.specs.Reader.{Stopped, Walk, stopAt, walkOfAny, walk, said, within, walkInto, filingInto}

@@ -2,13 +2,13 @@
 use Prim.Native.Nat.{ℕ}
 use mathlib.Core.Path.{_≡_, refl, sym, _∙_, ap, subst}
 use mathlib.Core.Logic.{_⊎_, inl, inr, _↔_}
-use mathlib.Core.List.{List, _∷_, _++_}
+use mathlib.Core.List.{List}
 use mathlib.Core.Bool.{false, cond}
 use mathlib.Core.Option.{Option, some}
 use native.Mathlib.Omega.{arith}
 use borrow.Author.Tests.{eqb-true, eqb-false, eq-eqb, le-ltb}
 use lib.Dec.{eqb}
-use lib.ListN.{length, getD, replicate}
+use lib.ListN.{length}
 use Rattle.answers.proofs.ResultLaws.{not-good, bind-good}
 use Rattle.bits.specs.declared.Bit.the-variants as bit
 use Rattle.bits.specs.declared.Read.the-variants.{Value}
@@ -19,7 +19,7 @@ use Rattle.bodies.specs.Extensions.{numbered, ColourGiven}
 use Rattle.bodies.proofs.NumberLaws.{number-iff, number-one, number-byte, numbered-by}
 use Rattle.bodies.specs.Answers as answers
 use Rattle.layout.specs.Layouts.{fields, leastBytes}
-use Rattle.layout.specs.Obeys.{Fits, AllAllowed, written, Obeys}
+use Rattle.layout.specs.Obeys.{Fits, Obeys}
 use Rattle.answers.specs.Results.{good, _>>=_}
 use Rattle.bodies.specs.Records.{headerRecord, plainRecord, colouredRecord, copyrightRecord}
 use Rattle.layout.specs.declared.Layout.{Layout}
@@ -29,7 +29,6 @@ use Rattle.bodies.specs.declared.Scope.the-variants as scope
 use Rattle.bodies.specs.declared.SequenceHeader.{SequenceHeader}
 use Rattle.bodies.proofs.AnswerLaws.{short-by, not-short, colour-there}
 use Rattle.bodies.proofs.AnswerLaws as laws
-use Rattle.layout.proofs.LayoutLaws.{fits-length, spell, spelled}
 use Rattle.bodies.proofs.BreakLaws.{copyright-made, number-there}
 use Rattle.bodies.proofs.ExtensionLaws.{plain-made, coloured-made, record-if, if-record}
 use Rattle.layout.proofs.ReadingLaws.{value-good}

@@ -17,7 +17,7 @@ use Rattle.bodies.proofs.BreakLaws.{value-over}
 use Rattle.bodies.proofs.PlaceLaws.{BitInside, short-inside, stuffing-inside, layout-inside, display-inside, extension-inside}
 use Rattle.grammar.specs.Grammar.{StreamUnit}
 use Rattle.grammar.specs.Reasons.{reasonNumber, reasonBit, BitNumber}
-use Rattle.grammar.specs.Refusals.{OfBody, OutOfOrder, order, row, BadHeadExtension, short, twice, fields, other, BreaksBody, Breaks, unknown, out-of-place, in-place, Stops, unended, cut, overlap, breaks, Refuses, too-long, no-code, in-unit}
+use Rattle.grammar.specs.Refusals.{OfBody, OutOfOrder, order, row, BadHeadExtension, short, twice, fields, other, BreaksBody, unknown, out-of-place, in-place, Stops, unended, cut, overlap, breaks, Refuses, too-long, no-code, in-unit}
 use Rattle.grammar.specs.declared.Reason.{Reason}
 use Rattle.grammar.specs.declared.Reason.the-variants as reason
 

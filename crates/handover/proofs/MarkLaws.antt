@@ -8,7 +8,6 @@ use native.Mathlib.Omega.{arith}
 use lib.Dec.{leb}
 use lib.ListN.{length}
 use Rattle.answers.specs.Answers.{Carried, Outcome, done, refused, mapDone, NO-ROW, FULL}
-use Rattle.answers.proofs.OutcomeLaws.{not-refused}
 use Rattle.groups.specs.Reader.{groupAt}
 use Rattle.groups.proofs.Main as groups
 use Rattle.statuses.specs.Answers.{counted, BitMarked}

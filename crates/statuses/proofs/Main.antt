@@ -1,12 +1,10 @@
 -- What is proved of answers beyond the contracts of the functions: the bit is there exactly for MARKER and VALUE, and the mark that
 -- stands for none is no bit.
 use Prim.Native.Nat.{ℕ}
-use mathlib.Core.Path.{_≡_, subst}
 use mathlib.Core.List.{List}
 use lib.ListN.{length}
 use Rattle.answers.specs.Answers.{Outcome, done, refused, mapDone}
-use Rattle.answers.specs.Results.{bad}
-use Rattle.grammar.specs.Reader.{Stopped, walk, walkInto, said}
+use Rattle.grammar.specs.Reader.{walk, walkInto, said}
 use Rattle.grammar.specs.Refusals.{RefusesInto, refuses, full}
 use Rattle.grammar.specs.declared.Reason.{Reason}
 use Rattle.grammar.proofs.ReasonLaws.{BitSmall, refuses-fair, full-fair}

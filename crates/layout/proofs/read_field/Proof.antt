@@ -1,7 +1,6 @@
 -- The bits that are read are the field's, and its rule judges their value.
 use Prim.Native.Nat.{ℕ, _+_}
 use mathlib.Core.Path.{_≡_, refl, sym, ap, _∙_}
-use mathlib.Core.List.{List}
 use Rattle.answers.specs.Results.{good}
 use Rattle.bits.specs.Bits.{bitsOf, payload, readAt}
 use Rattle.bits.specs.declared.Read.{Read}

@@ -4,7 +4,6 @@ use mathlib.Core.Path.{_≡_, sym, ap, _∙_}
 use mathlib.Core.Bool.{Bool, not}
 use borrow.Author.Tests.{eq-eqb, ne-eqb}
 use Rattle.layout.specs.Reader.{refuseIf, ruled}
-use Rattle.layout.specs.declared.JudgedField.{JudgedField}
 use Rattle.layout.specs.declared.Rule.{Rule}
 use Rattle.layout.specs.declared.Fault.the-variants.{Marker, Value}
 use borrow.Author.Needs.{needs}
