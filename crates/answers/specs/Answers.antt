@@ -9,7 +9,7 @@ pub data Carried : Type 0 where
   at-offset : ℕ → Carried
   at-bit : ℕ → Carried
 
--- An answer in document 01's terms: number 0 with its value, or the number of a refusal with what it carries.
+-- An answer in the papers' terms: number 0 with its value, or the number of a refusal with what it carries.
 pub data Outcome (A : Type 0) : Type 0 where
   done : A → Outcome A
   refused : ℕ → List Carried → Outcome A

@@ -42,7 +42,7 @@ is n = done (n ∷ [])
 abbrev pub no : ℕ → Outcome (List ℕ)
 no number = refused number []
 
--- document 01's number of an answer: 0 for one that is done
+-- the papers' number of an answer: 0 for one that is done
 abbrev pub status : {A : Type 0} → Outcome A → ℕ
 status (done a) = 0
 status (refused number carried) = number

@@ -4,8 +4,8 @@ use mathlib.Core.Path.{_≡_, refl, sym, ap, _∙_}
 use Rattle.answers.specs.Results.{good}
 use Rattle.bits.specs.Bits.{bitsOf, payload, readAt}
 use Rattle.bits.specs.declared.Read.{Read}
-use Rattle.layout.specs.Layouts.{widthOf}
-use Rattle.layout.specs.Reader.{_>>_}
+use Rattle.layout.specs.Layouts.{widthOf, ruleOf}
+use Rattle.layout.specs.Reader.{_>>_, ruled}
 use Rattle.layout.specs.Inside.{taken}
 use Rattle.layout.specs.declared.Verdict.{Verdict}
 use Rattle.layout.proofs.ReadingLaws.{read-inside, taken-value, taken-fail}
@@ -31,7 +31,8 @@ judged c w e =
     let r = c .before .before .before .before in
     let a = entry r .args in
     let g = c .before .before .value .given in
-    taken-value (a .field) (a .at) _ (bitsOf (a .body .now)) (read-is r _ (g .1)) ∙ ap (λ (x : Verdict). x >> good (g .0 .0)) (sym (c .ruled-on .ensures) ∙ e)
+    let first : c .ruled-on .result ≡ ruled (ruleOf (a .field)) (g .0 .0) (a .at) = c .ruled-on .ensures in
+    taken-value (a .field) (a .at) _ (bitsOf (a .body .now)) (read-is r _ (g .1)) ∙ ap (λ (x : Verdict). x >> good (g .0 .0)) (sym first ∙ e)
 
 wide-requires : tie.Need-wide-requires
 wide-requires c κs = search needs
