@@ -1,6 +1,6 @@
 -- The bit that a body's refusal carries is one of its fields' bits.
 use Prim.Native.Nat.{ℕ, _<_}
-use mathlib.Core.Path.{_≡_, sym, subst}
+use mathlib.Core.Path.{_≡_, refl, sym, subst}
 use mathlib.Core.List.{List, [], _∷_}
 use native.Mathlib.Omega.{arith}
 use Rattle.answers.specs.Answers.{at-bit}
@@ -23,13 +23,12 @@ abbrev pub BitInside : Fault → Type 0
 BitInside why = (b : ℕ) → faultBit why ≡ at-bit b ∷ [] → b < 112
 
 -- a fault that carries no bit
-pub short-inside : (why : Fault) → why ≡ Short → BitInside why
-unfolding faultBit
-short-inside why e = subst BitInside (sym e) (λ b f. let z : _≡_ {A = ℕ} 0 1 = cc in absurd (omega arith))
+pub bitless-inside : (f why : Fault) → faultBit f ≡ [] → why ≡ f → BitInside why
+bitless-inside f why n e = subst BitInside (sym e) (λ b i. let z : _≡_ {A = ℕ} 0 1 = cc in absurd (omega arith))
 
-pub stuffing-inside : (why : Fault) → why ≡ Stuffing → BitInside why
+short-inside : (why : Fault) → why ≡ Short → BitInside why
 unfolding faultBit
-stuffing-inside why e = subst BitInside (sym e) (λ b f. let z : _≡_ {A = ℕ} 0 1 = cc in absurd (omega arith))
+short-inside why e = bitless-inside Short why refl e
 
 pub layout-inside : (layout : Layout) (body : List ℕ) (why : Fault) → Breaks layout body why → BitInside why
 unfolding faultBit

@@ -14,7 +14,7 @@ use Rattle.layout.specs.declared.Layout.the-variants.{Header}
 use Rattle.bodies.specs.Answers.{faultNumber, faultBit}
 use Rattle.bodies.specs.declared.Scope.the-variants as scope
 use Rattle.bodies.proofs.BreakLaws.{value-over}
-use Rattle.bodies.proofs.PlaceLaws.{BitInside, short-inside, stuffing-inside, layout-inside, display-inside, extension-inside}
+use Rattle.bodies.proofs.PlaceLaws.{BitInside, bitless-inside, layout-inside, display-inside, extension-inside}
 use Rattle.grammar.specs.Grammar.{StreamUnit}
 use Rattle.grammar.specs.Reasons.{reasonNumber, reasonBit, BitNumber}
 use Rattle.grammar.specs.Refusals.{OfBody, OutOfOrder, order, row, BadHeadExtension, short, twice, fields, other, BreaksBody, unknown, out-of-place, in-place, Stops, unended, cut, overlap, breaks, Refuses, too-long, no-code, in-unit}
@@ -32,9 +32,9 @@ Fair why = (reasonNumber why ≢ FULL) × BitSmall why
 same : (why r : Reason) → why ≡ r → Fair r → Fair why
 same why r e h = subst Fair (sym e) h
 
--- a reason that carries no bit
-bitless : (why : Reason) → reasonNumber why ≢ FULL → reasonBit why ≡ [] → Fair why
-bitless why n e = (n, λ b f. let z : _≡_ {A = ℕ} 0 1 = cc in absurd (omega arith))
+-- one that carries no bit
+bitless : (why r : Reason) → why ≡ r → reasonNumber r ≢ FULL → reasonBit r ≡ [] → Fair why
+bitless why r e n i = same why r e (n, λ b f. let z : _≡_ {A = ℕ} 0 1 = cc in absurd (omega arith))
 
 fault-fair : (f : Fault) → BitInside f → Fair (reason.Body f)
 fault-fair f h = (not-full f, h)
@@ -48,11 +48,17 @@ fault-fair f h = (not-full f, h)
 of-body : (Broken : Fault → Type 0) → ((f : Fault) → Broken f → BitInside f) → (why : Reason) → OfBody Broken why → Fair why
 of-body Broken inside why b = same why (reason.Body (b .0)) (b .2) (fault-fair (b .0) (inside (b .0) (b .1)))
 
+-- a fault that carries no bit
+bitless-fault : (f : Fault) (why : Reason) → faultBit f ≡ [] → why ≡ reason.Body f → Fair why
+bitless-fault f why n e = same why (reason.Body f) e (fault-fair f (bitless-inside f f n refl))
+
 short-fair : (why : Reason) → why ≡ reason.Body fault.Short → Fair why
-short-fair why e = same why _ e (fault-fair fault.Short (short-inside fault.Short refl))
+unfolding faultBit
+short-fair why e = bitless-fault fault.Short why refl e
 
 stuffing-fair : (why : Reason) → why ≡ reason.Body fault.Stuffing → Fair why
-stuffing-fair why e = same why _ e (fault-fair fault.Stuffing (stuffing-inside fault.Stuffing refl))
+unfolding faultBit
+stuffing-fair why e = bitless-fault fault.Stuffing why refl e
 
 order-fair : {us : List StreamUnit} {u : StreamUnit} {n : ℕ} {why : Reason} → OutOfOrder us u n why → Fair why
 order-fair {why = why} (order g e) = same why reason.SliceOrder e ((λ z. omega arith), λ b f. let i : 0 ≡ b = cc in omega arith)
@@ -60,7 +66,7 @@ order-fair {why = why} (row g l e) = same why reason.SliceRow e ((λ z. omega ar
 
 head-fair : {extras : List StreamUnit} {u : StreamUnit} {why : Reason} → BadHeadExtension extras u why → Fair why
 head-fair {why = why} (short n s e) = short-fair why e
-head-fair {why = why} (twice n l o e) = same why reason.Twice e (bitless reason.Twice (λ z. omega arith) refl)
+head-fair {why = why} (twice n l o e) = bitless why reason.Twice e (λ z. omega arith) refl
 head-fair {u = u} {why = why} (fields n l o b) = of-body _ (display-inside (u .body)) why b
 head-fair {u = u} {why = why} (other n b) = of-body _ (extension-inside scope.Head (u .body)) why b
 
@@ -77,16 +83,16 @@ body-fair kind.PBPicture us u why b = short-fair why (b .1)
 body-fair kind.EditCode us u why b = stuffing-fair why (b .1)
 
 stops-fair : {us : List StreamUnit} {left : List ℕ} {why : Reason} → Stops us left why → Fair why
-stops-fair {why = why} (unended e s w) = same why reason.Unended w (bitless reason.Unended (λ z. omega arith) refl)
-stops-fair {why = why} (cut e w) = same why reason.Cut w (bitless reason.Cut (λ z. omega arith) refl)
-stops-fair {why = why} (overlap r e h w) = same why reason.Overlap w (bitless reason.Overlap (λ z. omega arith) refl)
-stops-fair {why = why} (breaks u r e a k (unknown x w)) = same why reason.Unknown w (bitless reason.Unknown (λ z. omega arith) refl)
-stops-fair {why = why} (breaks u r e a k (out-of-place j x p w)) = same why reason.OutOfPlace w (bitless reason.OutOfPlace (λ z. omega arith) refl)
+stops-fair {why = why} (unended e s w) = bitless why reason.Unended w (λ z. omega arith) refl
+stops-fair {why = why} (cut e w) = bitless why reason.Cut w (λ z. omega arith) refl
+stops-fair {why = why} (overlap r e h w) = bitless why reason.Overlap w (λ z. omega arith) refl
+stops-fair {why = why} (breaks u r e a k (unknown x w)) = bitless why reason.Unknown w (λ z. omega arith) refl
+stops-fair {why = why} (breaks u r e a k (out-of-place j x p w)) = bitless why reason.OutOfPlace w (λ z. omega arith) refl
 stops-fair {us} {why = why} (breaks u r e a k (in-place j x p b)) = body-fair j us u why b
 
 pub refuses-fair : {s : List ℕ} {why : Reason} {at : ℕ} → Refuses s why at → Fair why
-refuses-fair {why = why} (too-long l w p) = same why reason.TooLong w (bitless reason.TooLong (λ z. omega arith) refl)
-refuses-fair {why = why} (no-code l h w p) = same why reason.NoCode w (bitless reason.NoCode (λ z. omega arith) refl)
+refuses-fair {why = why} (too-long l w p) = bitless why reason.TooLong w (λ z. omega arith) refl
+refuses-fair {why = why} (no-code l h w p) = bitless why reason.NoCode w (λ z. omega arith) refl
 refuses-fair (in-unit l h t) = stops-fair (t .stops)
 
 -- FULL carries no bit

@@ -113,7 +113,7 @@ module _ (name : Name) where
   alone (x ∷ xs) f ys [] g after w v n e = let i : x ≡ g = cc in absurd (w .0 (ap nameOf i ∙ n))
   alone (x ∷ xs) f ys (b ∷ before) g after w v n e =
       let i : b ≡ x = cc in
-      let r = alone xs f ys before g after (w .1) (v) n cc in
+      let r = alone xs f ys before g after (w .1) v n cc in
       rw (i, r)
 
 -- the owner and part one of a copyright extension

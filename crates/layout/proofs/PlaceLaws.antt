@@ -61,41 +61,28 @@ module _ (layout : Layout) (before : List Field) (f : Field) (after : List Field
 
 -- ── the place of a refusal ──
 
--- what is refused for a rule is refused at the bit at which the rule is broken
-module _ (r : Rule) (n : Name) (v at : ℕ) (known : Named r n) where
-  value-at : (field : JudgedField) (place : ℕ) → Wrong r v at (fault.Value field place) → (n ≡ placedAt field) × (place ≡ at)
-  value-at field place h = by-rule r known h
-    where
-      by-rule : (r : Rule) → Named r n → Wrong r v at (fault.Value field place) → (n ≡ placedAt field) × (place ≡ at)
-      by-rule rule.Any k h = absurd h
-      by-rule rule.Set k (x, e) = let z : _≡_ {A = ℕ} 0 1 = cc in absurd (omega arith)
-      by-rule (rule.Judged g values) k (x, e) = (k ∙ ap placedAt (cc), cc)
+-- a fault has the name and the bit of the field that is refused
+abbrev Placed : Fault → Name → ℕ → Type 0
+Placed fault.Short n at = ⊥
+Placed (fault.Marker place) n at = (n ≡ name.Marker) × (place ≡ at)
+Placed (fault.Value field place) n at = (n ≡ placedAt field) × (place ≡ at)
+Placed fault.Stuffing n at = ⊥
 
-  marker-at : (place : ℕ) → Wrong r v at (fault.Marker place) → (n ≡ name.Marker) × (place ≡ at)
-  marker-at place h = by-rule r known h
-    where
-      by-rule : (r : Rule) → Named r n → Wrong r v at (fault.Marker place) → (n ≡ name.Marker) × (place ≡ at)
-      by-rule rule.Any k h = absurd h
-      by-rule rule.Set k (x, e) = (k, cc)
-      by-rule (rule.Judged g values) k (x, e) = let z : _≡_ {A = ℕ} 0 1 = cc in absurd (omega arith)
+-- what is refused for a rule is refused at the bit at which the rule is broken
+wrong-placed : (r : Rule) (n : Name) (v at : ℕ) (why : Fault) → Named r n → Wrong r v at why → Placed why n at
+wrong-placed rule.Any n v at why k h = absurd h
+wrong-placed rule.Set n v at why k (x, e) = subst (λ (f : Fault). Placed f n at) (sym e) (k, refl)
+wrong-placed (rule.Judged field values) n v at why k (x, e) = subst (λ (f : Fault). Placed f n at) (sym e) (k, refl)
 
 -- the first field whose rule is broken
 module _ (layout : Layout) (vs : List ℕ) (why : Fault) (w : FirstWrong (fields layout) 0 vs why) where
-  known : Named (ruleOf (w .field)) (nameOf (w .field))
-  known = of-field layout (w .before) (w .field) (w .after) (w .all-fields) (λ (f : Field). Named (ruleOf f) (nameOf f)) (named layout)
+  first-placed : Placed why (nameOf (w .field)) (0 + bitCount (w .before))
+  first-placed =
+      let known = of-field layout (w .before) (w .field) (w .after) (w .all-fields) (λ (f : Field). Named (ruleOf f) (nameOf f)) (named layout) in
+      wrong-placed (ruleOf (w .field)) (nameOf (w .field)) (w .value) (0 + bitCount (w .before)) why known (w .broken)
 
-  begins : {n : Name} {place : ℕ} → nameOf (w .field) ≡ n → place ≡ 0 + bitCount (w .before) → Begins layout n place
-  begins e s = record { before = w .before; it = w .field; after = w .after; all = w .all-fields; named = e; sum = omega arith }
-
-  wrong-value : (field : JudgedField) (place : ℕ) → why ≡ fault.Value field place → Begins layout (placedAt field) place
-  wrong-value field place e =
-      let p = value-at (ruleOf (w .field)) (nameOf (w .field)) (w .value) _ known field place (subst (Wrong (ruleOf (w .field)) (w .value) (0 + bitCount (w .before))) e (w .broken)) in
-      begins (p .0) (p .1)
-
-  wrong-marker : (place : ℕ) → why ≡ fault.Marker place → Begins layout name.Marker place
-  wrong-marker place e =
-      let p = marker-at (ruleOf (w .field)) (nameOf (w .field)) (w .value) _ known place (subst (Wrong (ruleOf (w .field)) (w .value) (0 + bitCount (w .before))) e (w .broken)) in
-      begins (p .0) (p .1)
+  first-begins : {n : Name} {place : ℕ} → (nameOf (w .field) ≡ n) × (place ≡ 0 + bitCount (w .before)) → Begins layout n place
+  first-begins (e, s) = record { before = w .before; it = w .field; after = w .after; all = w .all-fields; named = e; sum = omega arith }
 
 value-same : (a b : JudgedField) (p q : ℕ) → fault.Value a p ≡ fault.Value b q → (a ≡ b) × (p ≡ q)
 value-same a b p q e = (cc, cc)
@@ -125,13 +112,13 @@ across-no-marker Copyright vs place (c, o, unowned f g at b e) = let z : _≡_ {
 
 pub value-begins : (layout : Layout) (body : List ℕ) (field : JudgedField) (place : ℕ) → Breaks layout body (fault.Value field place) → Begins layout (placedAt field) place
 value-begins layout body field place (short h e) = let z : _≡_ {A = ℕ} 0 1 = cc in absurd (omega arith)
-value-begins layout body field place (wrong vs end h w) = wrong-value layout vs _ w field place refl
+value-begins layout body field place (wrong vs end h w) = first-begins layout vs _ w (first-placed layout vs _ w)
 value-begins layout body field place (across vs end h a x) = across-begins layout vs field place x
 value-begins layout body field place (ended vs end h a x n e) = let z : _≡_ {A = ℕ} 0 1 = cc in absurd (omega arith)
 
 pub marker-begins : (layout : Layout) (body : List ℕ) (place : ℕ) → Breaks layout body (fault.Marker place) → Begins layout name.Marker place
 marker-begins layout body place (short h e) = let z : _≡_ {A = ℕ} 0 1 = cc in absurd (omega arith)
-marker-begins layout body place (wrong vs end h w) = wrong-marker layout vs _ w place refl
+marker-begins layout body place (wrong vs end h w) = first-begins layout vs _ w (first-placed layout vs _ w)
 marker-begins layout body place (across vs end h a x) = absurd (across-no-marker layout vs place x)
 marker-begins layout body place (ended vs end h a x n e) = let z : _≡_ {A = ℕ} 0 1 = cc in absurd (omega arith)
 
