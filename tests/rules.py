@@ -155,6 +155,13 @@ def judged():
     yield from ((name, "copyright extension", [places[field] for field in about]) for name, about in ACROSS.items())
 
 
+def across():
+    """The rules across a copyright extension's fields: the refusal, and the field whose first bit it has."""
+    text = read("crates/layout/specs/Breaks.antt")
+    for field, judged_field in re.findall(r"\bBegins Copyright (\w+) at → why ≡ fault\.Value (\w+) at\b", text):
+        yield "VALUE-" + re.sub(r"(?<=[a-z])(?=[A-Z])", "-", judged_field).upper(), field
+
+
 def bits():
     """Number, body, field and bit of each refusal that carries one, and where in the body's bytes the bit is. No layout has a slice's
     code byte: its bit is 0."""
@@ -211,6 +218,7 @@ def pairs():
     """What is compared, as the definitions have it, and as the page has it."""
     listed = table("Refusal numbers", "No, Name, Given exactly when, What to look at")
     yield "refusals", refusals(), [row[:2] for row in listed]
+    yield "places across fields", across(), [(name, about[0]) for name, about in ACROSS.items()]
     yield "bits of refusals", bits(), table("What a refusal carries", "No, In, Field, Bit, Value and byte")
     looked_at = [(row[0], re.findall(r"\b(\d+) to (\d+)\b", row[3])) for row in listed if int(row[0]) >= 20]
     yield "bits to look at", spans(), [(number, found) for number, found in looked_at if found]
