@@ -1,7 +1,7 @@
 #!/usr/bin/env python3
 """What crates/run_payloads must print: examples 8 to 12 of document 01's "Table of proved examples", as it gives them.
 
-Where the table leaves a number out, a rule of the document gives it: after a bin that is not p rS is 0; and lg does not pass 1023 in
+Where the table leaves a number out, a rule of the documents gives it: after a bin that is not p rS is 0; and lg does not pass 1023 in
 example 11, so that mps stays 0.
 """
 PAYLOAD_OUT = 14
@@ -12,4 +12,5 @@ for number, signed in ((0, 0), (1, 1), (2, -1)):
 # the bins; rS, rT, valueS, valueT, place; mps, lg, cycno
 print("example 10", 1, 0, 254, 8, 0, 18, 1, 827, 1)
 print("example 11", 0, 0, 1, 0, 188, 0, 28, 12, 0, 927, 2)
-print("example 12", PAYLOAD_OUT)
+# the bin reads bit by bit, so one is missing (document 02, E13)
+print("example 12", PAYLOAD_OUT, 1)

@@ -4,7 +4,7 @@
 Reads the questions (not the code) from crates/run_reads/src/main.rt and prints what the program must print. The gate holds
 this to crates/run_reads/stdout, and rt ci holds the program to that file.
 
-    read BYTES COUNT PLACE WIDTH    the bit there or none; the number, none or wide
+    read BYTES COUNT PLACE WIDTH    the bit there or none; the number, how many of its bits are missing, or wide
     prefix AT                       whether 00 00 01 stands there
     macroblocks PROGRESSIVE WIDTH HEIGHT
                                     columns, rows, whether slices are tested
@@ -27,8 +27,10 @@ def reads():
         taken = bits[place:place + width]
         if width > 32:
             value = "wide"
+        elif len(taken) < width:
+            value = f"missing {width - len(taken)}"
         else:
-            value = int(taken or "0", 2) if len(taken) == width else "none"
+            value = int(taken or "0", 2)
         print("read", hexed(data), count, place, width, bit, value)
 
 

@@ -6,21 +6,19 @@ use mathlib.Core.Bool.{Bool}
 use native.Mathlib.Omega.{arith}
 use lib.Dec.{eqb}
 use lib.ListN.{length, drop}
-use Rattle.answers.specs.Answers.{Outcome, done, andThen, PAYLOAD-OUT}
+use Rattle.answers.specs.Answers.{Outcome, done, andThen}
 use Rattle.answers.specs.Limits.{longestPayload}
-use Rattle.bits.specs.Bits.{payload, readAt, readOr}
-use Rattle.bits.specs.declared.Read.{Read}
-use Rattle.bits.specs.declared.Read.the-variants as read
+use Rattle.bits.specs.Bits.{payload, readAt}
 use Rattle.bits.proofs.TestLaws.{by-test}
 use Rattle.bits.proofs.BitLaws.{all-payload}
 use Rattle.bits.proofs.ReadLaws.{found-value}
-use Rattle.aec.specs.Bins.{withinLimit, noBit, doubleOf, shifts, normaliseOf, widenOf, settleOf, startOf, splitOf, missesOf, remainderOf, unpredictedOf, stepOf}
+use Rattle.aec.specs.Bins.{withinLimit, doubleOf, shifts, normaliseOf, widenOf, settleOf, startOf, splitOf, missesOf, remainderOf, unpredictedOf, stepOf}
 use Rattle.aec.specs.Claims.{Runs, runs-done, runs-out}
 use Rattle.aec.specs.declared.State.{State}
 use Rattle.aec.specs.declared.Shift.{Shift}
 use Rattle.aec.specs.declared.Split.{Split}
 use Rattle.aec.specs.declared.Prediction.{Prediction}
-use Rattle.answers.proofs.OutcomeLaws.{then-done}
+use Rattle.answers.proofs.OutcomeLaws.{not-done, then-done}
 use Rattle.bits.proofs.TestLaws.{chosen}
 use Rattle.aec.proofs.RangeLaws.{StateRanges, payload-bound}
 use Rattle.aec.proofs.ShiftLaws.{normalised, widened}
@@ -81,7 +79,7 @@ unfolding startOf
 start-ranges bytes count x e =
     let l = payload bytes count in
     let c = then-done (withinLimit bytes) _ x e in
-    let (vt, is, to) = found-value _ PAYLOAD-OUT [] (readAt l 0 9) x (c .to) in
+    let (vt, is, to) = found-value _ _ (readAt l 0 9) x (λ n e. not-done e) (c .to) in
     settle-good bytes count (limit-held bytes (c .from)) 255 vt 9 x (omega arith) (nine-bits bytes count vt is .0) to .0
 
 -- ── past the first tests only PAYLOAD OUT refuses ──
@@ -99,11 +97,6 @@ runs-shifts : (enough : Shift → Bool) (step : ℕ → ℕ) (l : List ℕ) (z :
 unfolding shifts
 runs-shifts enough step [] z = chosen Runs (enough z) _ _ (λ t. runs-done) (λ f. runs-out)
 runs-shifts enough step (b ∷ l) z = chosen Runs (enough z) _ _ (λ t. runs-done) (λ f. runs-shifts enough step l _)
-
-pub runs-read : {A : Type 0} (found : ℕ → Outcome A) → ((n : ℕ) → Runs (found n)) → (r : Read) → Runs (readOr found noBit r)
-runs-read found k (read.Value n) = k n
-runs-read found k read.Missing = runs-out
-runs-read found k read.TooWide = runs-out
 
 pub runs-settle : (l : List ℕ) (rt vt place : ℕ) → Runs (settleOf l rt vt place)
 runs-settle l rt vt place = runs-then _ (runs-shifts _ _ (drop place l) _) (λ z. runs-done)

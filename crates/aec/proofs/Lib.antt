@@ -3,6 +3,7 @@ pub mod RangeLaws
 pub mod ShiftLaws
 pub mod PairLaws
 pub mod StepLaws
+pub mod StartLaws
 pub mod GoodLaws
 pub mod Theorems
 pub mod Main

@@ -6,13 +6,14 @@ use mathlib.Core.List.{List, []}
 use mathlib.Core.Bool.{true, _&&_}
 use native.Mathlib.Omega.{arith}
 use lib.ListN.{length}
-use Rattle.answers.specs.Answers.{done, refused, TOO-LONG, PAYLOAD-OUT, OneToOne}
+use Rattle.answers.specs.Answers.{done, refused, TOO-LONG, OneToOne}
 use Rattle.answers.specs.Limits.{longestPayload}
+use Rattle.answers.specs.Missing.{payloadOut, SaysMissing}
 use Rattle.bits.specs.Bits.{payload}
 use Rattle.contexts.specs.Contexts.{goodContext, freshContext}
 use Rattle.aec.specs.Bins.{goodState, startOf, bypassOf, stuffingOf, decodeOf, decodePairOf}
 use Rattle.aec.specs.Says.{refusalSays, startedSays, steppedSays, decodedSays, decodedPairSays}
-use Rattle.aec.specs.Claims.{Leads, Refuses, SameBits}
+use Rattle.aec.specs.Claims.{Leads, Refuses, LacksStart, SameBits}
 use Rattle.aec.specs.declared.State.{State}
 use Rattle.contexts.specs.declared.Context.{Context}
 use Rattle.contexts.proofs.ContextLaws as contexts
@@ -57,7 +58,7 @@ pub decode-pair-good : (bytes : List ℕ) (count : ℕ) (x : State) (a b : Conte
     → decodePairOf bytes count x a b ≡ done (bin, y, d, e) → (Leads bytes count x bin y) × (goodContext d ≡ true) × (goodContext e ≡ true)
 decode-pair-good bytes count x a b bin y d e h = proof.decode-pair-good bytes count x a b (bin, y, d, e) h
 
--- ── The order of refusals: TOO LONG, BAD STATE, and then only PAYLOAD OUT ──
+-- ── The order of refusals: TOO LONG, BAD STATE, and then only PAYLOAD OUT, with one bit missing ──
 
 -- With what leads to good, above: a decoder that goes on from the start with fresh contexts meets no BAD STATE.
 pub bypass-refuses : (bytes : List ℕ) (count : ℕ) (x : State) → Refuses bytes count x true (bypassOf bytes count x)
@@ -76,9 +77,31 @@ decode-pair-refuses = proof.decode-pair-refuses
 pub start-long : (bytes : List ℕ) (count : ℕ) → (startOf bytes count ≡ refused TOO-LONG []) ↔ (longestPayload < length bytes)
 start-long = proof.start-long
 
--- the first nine bits are one read
-pub start-out : (bytes : List ℕ) (count : ℕ) → length bytes ≤ longestPayload → length (payload bytes count) < 9 → startOf bytes count ≡ refused PAYLOAD-OUT []
-start-out = proof.start-out
+-- PAYLOAD OUT at the start, with m, how many bits are missing: 1 to 9
+pub start-out-iff : (bytes : List ℕ) (count m : ℕ) →
+    (startOf bytes count ≡ payloadOut m) ↔ ((length bytes ≤ longestPayload) × LacksStart (payload bytes count) m)
+start-out-iff = proof.start-out
+
+pub start-out-range : (bytes : List ℕ) (count m : ℕ) → startOf bytes count ≡ payloadOut m → (1 ≤ m) × (m ≤ 9)
+start-out-range = proof.start-range
+
+-- ── PAYLOAD OUT carries how many bits are missing and nothing else, and no other refusal carries anything ──
+
+pub start-missing : (bytes : List ℕ) (count : ℕ) → SaysMissing (startOf bytes count)
+start-missing = proof.start-missing
+
+module _ (bytes : List ℕ) (count : ℕ) (x : State) where
+  pub bypass-missing : SaysMissing (bypassOf bytes count x)
+  bypass-missing = proof.refuses-missing bytes count x _ _ (bypass-refuses bytes count x)
+
+  pub stuffing-missing : SaysMissing (stuffingOf bytes count x)
+  stuffing-missing = proof.refuses-missing bytes count x _ _ (stuffing-refuses bytes count x)
+
+  pub decode-missing : (c : Context) → SaysMissing (decodeOf bytes count x c)
+  decode-missing c = proof.refuses-missing bytes count x _ _ (decode-refuses bytes count x c)
+
+  pub decode-pair-missing : (a b : Context) → SaysMissing (decodePairOf bytes count x a b)
+  decode-pair-missing a b = proof.refuses-missing bytes count x _ _ (decode-pair-refuses bytes count x a b)
 
 -- ── Only the payload's bits count: the filling after them is never read ──
 

@@ -58,11 +58,11 @@ module _ (enough : Shift → Bool) (step : ℕ → ℕ) where
   shifts-enough [] z h = simp h
   shifts-enough (b ∷ l) z h = simp h
 
-  shifts-none : (z : Shift) → enough z ≡ false → shifts enough step [] z ≡ noBit
+  pub shifts-none : (z : Shift) → enough z ≡ false → shifts enough step [] z ≡ noBit
   unfolding shifts
   shifts-none z h = simp h
 
-  shifts-more : (b : ℕ) (l : List ℕ) (z : Shift) → enough z ≡ false
+  pub shifts-more : (b : ℕ) (l : List ℕ) (z : Shift) → enough z ≡ false
       → shifts enough step (b ∷ l) z ≡ shifts enough step l (record { value = z .value * 2 + b; beside = step (z .beside); place = z .place + 1 })
   unfolding shifts
   shifts-more b l z h = simp h

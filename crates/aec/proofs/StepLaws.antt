@@ -9,10 +9,10 @@ use lib.Dec.{leb, ltb, eqb}
 use lib.ListN.{length, drop, length-take}
 use Rattle.answers.specs.Answers.{Outcome, done, refused, TOO-LONG, BAD-STATE, andThen}
 use Rattle.answers.specs.Limits.{longestPayload}
+use Rattle.answers.specs.Results.{good}
 use Rattle.bits.specs.Bits.{payload, readAt}
 use Rattle.bits.specs.Lists.{All}
 use Rattle.bits.proofs.TestLaws.{by-test, and-true}
-use Rattle.bits.specs.declared.Read.the-variants as read
 use Rattle.bits.proofs.BitLaws.{Binary, length-in}
 use Rattle.bits.proofs.Main.{read-exactly}
 use Rattle.aec.specs.Bins.{goodState, withinLimit, refusedFirst, doubleOf, splitOf, missesOf, remainderOf, unpredictedOf, binOf, stepOf}
@@ -67,11 +67,11 @@ module _ (bytes : List ℕ) (count : ℕ) (x : State) (contexts : Bool) where
 -- ── the first nine bits ──
 
 -- nine bits that were read are there
-pub nine-bits : (bytes : List ℕ) (count v : ℕ) → readAt (payload bytes count) 0 9 ≡ read.Value v → (9 ≤ length (payload bytes count)) × (v < 512)
+pub nine-bits : (bytes : List ℕ) (count v : ℕ) → readAt (payload bytes count) 0 9 ≡ good v → (9 ≤ length (payload bytes count)) × (v < 512)
 nine-bits bytes count v e =
     let r = read-exactly bytes count 0 9 v .0 e in
-    let n = sym (length-take 9 (payload bytes count)) ∙ ap length (r .2) ∙ length-in 9 v in
-    (omega arith, r .1)
+    let n = sym (length-take 9 (payload bytes count)) ∙ ap length (r .1) ∙ length-in 9 v in
+    (omega arith, r .0)
 
 -- ── s, t and R ──
 

@@ -1,25 +1,29 @@
 -- The theorems of the front page, from the laws.
-use Prim.Native.Nat.{ℕ, _≤_, _<_}
+use Prim.Native.Nat.{ℕ, _-_, _%_, _≤_, _<_}
 use mathlib.Core.Path.{_≡_, refl, sym, ap, subst, _∙_}
-use mathlib.Core.Logic.{_↔_}
-use mathlib.Core.List.{List, []}
+use mathlib.Core.Logic.{_⊎_, inl, inr, _↔_}
+use mathlib.Core.List.{List, [], _∷_, _++_}
 use mathlib.Core.Bool.{Bool, true, false, _&&_}
 use native.Mathlib.Omega.{arith}
 use borrow.Author.Tests.{le-leb, leb-true, leb-false}
 use lib.Dec.{leb}
-use lib.ListN.{length}
-use Rattle.answers.specs.Answers.{Outcome, done, refused, TOO-LONG, BAD-STATE, PAYLOAD-OUT, andThen, OneToOne}
+use lib.ListN.{length, replicate}
+use Rattle.answers.specs.Answers.{Carried, missing, Outcome, done, refused, TOO-LONG, BAD-STATE, PAYLOAD-OUT, andThen, OneToOne}
 use Rattle.answers.specs.Limits.{longestPayload}
+use Rattle.answers.specs.Missing.{payloadOut, SaysMissing, says-done, says-none, says-out}
+use Rattle.answers.specs.Results.{Result, good, bad}
 use Rattle.bits.specs.Bits.{payload, readAt, readOr}
 use Rattle.bits.proofs.TestLaws.{by-test, and-true}
+use Rattle.bits.proofs.BitLaws.{all-payload, leading}
 use Rattle.bits.proofs.Main.{missing-exactly}
 use Rattle.contexts.specs.Contexts.{goodContext, updateOf}
-use Rattle.aec.specs.Bins.{goodState, withinLimit, refusedFirst, noBit, settleOf, startOf, stepOf, pairOf, plainOf, decodeOf, decodePairOf}
+use Rattle.aec.specs.Bins.{goodState, withinLimit, refusedFirst, noBit, normaliseOf, settleOf, startOf, stepOf, pairOf, plainOf, decodeOf, decodePairOf}
 use Rattle.aec.specs.Says.{refusalSays, startedSays, steppedSays, decodedSays, decodedPairSays}
-use Rattle.aec.specs.Claims.{Leads, Runs, runs-done, runs-out, Refuses, SameBits}
+use Rattle.aec.specs.Claims.{Leads, Runs, runs-done, runs-out, Refuses, LacksStart, of-nine, no-one, few-after, SameBits}
 use Rattle.aec.specs.declared.State.{State}
 use Rattle.contexts.specs.declared.Context.{Context}
 use Rattle.aec.specs.declared.Prediction.{Prediction}
+use Rattle.aec.specs.declared.Shift.{Shift}
 use Rattle.aec.specs.declared.Refusal.the-variants.{TooLong}
 use Rattle.aec.specs.declared.Started.{Started}
 use Rattle.aec.specs.declared.Started.the-variants as started
@@ -30,12 +34,13 @@ use Rattle.aec.specs.declared.Decoded.the-variants as decoded
 use Rattle.aec.specs.declared.DecodedPair.{DecodedPair}
 use Rattle.aec.specs.declared.DecodedPair.the-variants as decoded-pair
 use Rattle.aec.proofs.AnswerLaws.{answer, answer-refused}
-use Rattle.answers.proofs.OutcomeLaws.{not-refused, other-number, undone, goes, then-done}
+use Rattle.answers.proofs.OutcomeLaws.{not-refused, other-number, carried-same, out-same, undone, goes, then-done}
 use Rattle.contexts.proofs.ContextLaws.{context-ranges, updated-good}
 use Rattle.aec.proofs.RangeLaws.{state-ranges, ranges-state}
 use Rattle.aec.proofs.PairLaws.{Predicts, pair-predicts}
 use Rattle.aec.proofs.StepLaws.{limit-passed, limit-kept, first-long, first-bad, first-fine, first-held}
-use Rattle.aec.proofs.GoodLaws.{step-good, start-ranges, runs-then, runs-read, runs-settle, runs-step}
+use Rattle.aec.proofs.StartLaws.{lacks-one, lacks-after, ends-after}
+use Rattle.aec.proofs.GoodLaws.{step-good, start-ranges, runs-then, runs-step}
 
 -- ── no two answers say the same ──
 
@@ -128,6 +133,15 @@ runs-not : {A : Type 0} {o : Outcome A} (n : ℕ) → Runs o → (n ≡ PAYLOAD-
 runs-not n runs-done h e = not-refused e
 runs-not n runs-out h e = other-number e (λ z. h (sym z))
 
+-- and then one bit is missing
+runs-one : {A : Type 0} {o : Outcome A} {carried : List Carried} → Runs o → o ≡ refused PAYLOAD-OUT carried → carried ≡ missing 1 ∷ []
+runs-one runs-done e = not-refused e
+runs-one runs-out e = sym (carried-same e)
+
+runs-missing : {A : Type 0} {o : Outcome A} → Runs o → SaysMissing o
+runs-missing (runs-done {value}) = says-done value
+runs-missing runs-out = says-out 1 (omega arith)
+
 module _ (bytes : List ℕ) (count : ℕ) (x : State) (contexts : Bool) {A : Type 0} (next : Unit {0} → Outcome A) (runs : Runs (next tt)) where
   refuses : Refuses bytes count x contexts (andThen (refusedFirst bytes count x contexts) next)
   refuses =
@@ -156,7 +170,24 @@ module _ (bytes : List ℕ) (count : ℕ) (x : State) (contexts : Bool) {A : Typ
           λ h. is-bad (h .0) (h .1),
         );
         past = runs-past;
+        out =
+            λ carried e.
+            by-test (leb (length bytes) longestPayload)
+            (λ t.
+            let h = leb-true (length bytes) longestPayload t in
+            by-test good (λ g. runs-one (runs-past h g) e) (λ g. other-number (sym (is-bad h g) ∙ e) (λ z. omega arith)))
+            (λ f. other-number (sym (is-long (leb-false (length bytes) longestPayload f)) ∙ e) (λ z. omega arith));
       }
+
+-- what is refused first carries nothing, and all else says how many bits are missing
+pub refuses-missing : {A : Type 0} (bytes : List ℕ) (count : ℕ) (x : State) (contexts : Bool) (o : Outcome A) → Refuses bytes count x contexts o → SaysMissing o
+refuses-missing bytes count x contexts o r =
+    by-test (leb (length bytes) longestPayload)
+    (λ t.
+    let h = leb-true _ _ t in
+    by-test (goodState (length (payload bytes count)) x && contexts) (λ g. runs-missing (r .past h g))
+    (λ g. subst SaysMissing (sym (r .bad .1 (h, g))) (says-none BAD-STATE (λ z. omega arith))))
+    (λ f. subst SaysMissing (sym (r .long .1 (leb-false _ _ f))) (says-none TOO-LONG (λ z. omega arith)))
 
 module _ (bytes : List ℕ) (count : ℕ) (x : State) where
   pub plain-refuses : (lg : ℕ) → Refuses bytes count x true (plainOf bytes count x lg)
@@ -175,7 +206,7 @@ module _ (bytes : List ℕ) (count : ℕ) (x : State) where
 module _ (bytes : List ℕ) (count : ℕ) where
   -- what the start does past its first test
   abbrev starting : Outcome State
-  starting = readOr (λ vt. settleOf (payload bytes count) 255 vt 9) noBit (readAt (payload bytes count) 0 9)
+  starting = readOr (λ vt. settleOf (payload bytes count) 255 vt 9) payloadOut (readAt (payload bytes count) 0 9)
 
   start-past : length bytes ≤ longestPayload → starting ≡ startOf bytes count
   unfolding startOf
@@ -185,21 +216,84 @@ module _ (bytes : List ℕ) (count : ℕ) where
   unfolding startOf
   start-over h = limit-passed bytes starting h
 
+  abbrev bits : List ℕ
+  bits = payload bytes count
+
+  -- the nine bits are there
+  nine-read : 9 ≤ length bits → (v : ℕ) × (readAt bits 0 9 ≡ good v)
+  nine-read h = by (readAt bits 0 9) refl
+    where
+      by : (r : Result ℕ ℕ) → readAt bits 0 9 ≡ r → (v : ℕ) × (readAt bits 0 9 ≡ good v)
+      by (good v) e = (v, e)
+      by (bad m) e = let few = missing-exactly bits 0 9 m .0 e .0 in absurd (omega arith)
+
+  settled : (v : ℕ) (o : Outcome Shift) → readAt bits 0 9 ≡ good v → normaliseOf bits v 9 ≡ o → starting ≡ andThen o (λ z. done (record { rs = 0; rt = 255; vs = z .beside; vt = z .value % 256; place = z .place }))
+  settled v o r e = rw (r, e)
+
+  lacks-answers : {m : ℕ} → LacksStart bits m → starting ≡ payloadOut m
+  lacks-answers (of-nine few) = rw (missing-exactly bits 0 9 (9 - length bits) .1 (omega arith, omega arith))
+  lacks-answers (no-one many z e) = let (v, r) = nine-read many in settled v noBit r (lacks-one bits v (all-payload bytes count) r z e)
+  lacks-answers (few-after many z rest e few) = let (v, r) = nine-read many in settled v noBit r (lacks-after bits v (all-payload bytes count) r z rest e few)
+
+  -- it lacks bits, or is done
+  abbrev Starts : Type 0
+  Starts = ((x : State) × (starting ≡ done x)) ⊎ ((m : ℕ) × LacksStart bits m)
+
+  starts-from : 9 ≤ length bits → (n : ℕ) → (bits ≡ replicate n 0) ⊎ ((rest : List ℕ) × (bits ≡ replicate n 0 ++ (1 ∷ rest))) → Starts
+  starts-from many n (inl e) = inr (1, no-one many n e)
+  starts-from many n (inr (rest, e)) =
+      by-test (leb 8 (length rest))
+      (λ t.
+      let (v, r) = nine-read many in
+      let (w, d) = ends-after bits v (all-payload bytes count) r n rest e (leb-true _ _ t) in
+      inl (_, settled v (done w) r d))
+      (λ f. inr (1, few-after many n rest e (leb-false _ _ f)))
+
+  starts : Starts
+  starts =
+      by-test (leb 9 (length bits)) (λ t. let l = leading bits (all-payload bytes count) in starts-from (leb-true _ _ t) (l .0) (l .1))
+      (λ f. inr (9 - length bits, of-nine (leb-false _ _ f)))
+
+  by-limit : {P : Type 0} (o : Outcome State) → startOf bytes count ≡ o → (refused TOO-LONG [] ≡ o → P) → (length bytes ≤ longestPayload → starting ≡ o → P) → P
+  by-limit o e over under =
+      by-test (leb (length bytes) longestPayload) (λ t. under (leb-true _ _ t) (start-past (leb-true _ _ t) ∙ e)) (λ f. over (start-over (leb-false _ _ f) ∙ e))
+
   pub start-long : (startOf bytes count ≡ refused TOO-LONG []) ↔ (longestPayload < length bytes)
   start-long = (
-    λ e.
-        by-test (leb (length bytes) longestPayload)
-        (λ t.
-        let r = runs-read _ (λ vt. runs-settle (payload bytes count) 255 vt 9) (readAt (payload bytes count) 0 9) in
-        absurd (runs-not TOO-LONG r (λ z. omega arith) (start-past (leb-true (length bytes) longestPayload t) ∙ e)))
-        (λ f. leb-false (length bytes) longestPayload f),
+    λ e. by-test (leb (length bytes) longestPayload) (λ t. absurd (never (start-past (leb-true _ _ t) ∙ e) starts)) (λ f. leb-false _ _ f),
     λ h. sym (start-over h),
   )
+    where
+      never : starting ≡ refused TOO-LONG [] → Starts → ⊥
+      never q (inl (x, e)) = not-refused (sym e ∙ q)
+      never q (inr (m, c)) = other-number (sym (lacks-answers c) ∙ q) (λ z. omega arith)
 
-  pub start-out : length bytes ≤ longestPayload → length (payload bytes count) < 9 → startOf bytes count ≡ refused PAYLOAD-OUT []
-  start-out h k =
-      let m = missing-exactly (payload bytes count) 0 9 .1 (omega arith, omega arith) in
-      sym (start-past h) ∙ ap (readOr (λ vt. settleOf (payload bytes count) 255 vt 9) noBit) m
+  pub start-out : (m : ℕ) → (startOf bytes count ≡ payloadOut m) ↔ ((length bytes ≤ longestPayload) × LacksStart bits m)
+  start-out m = (
+    λ e. by-limit (payloadOut m) e (λ q. other-number q (λ z. omega arith)) (λ h q. (h, out q starts)),
+    λ c. sym (start-past (c .0)) ∙ lacks-answers (c .1),
+  )
+    where
+      out : starting ≡ payloadOut m → Starts → LacksStart bits m
+      out q (inl (x, e)) = not-refused (sym e ∙ q)
+      out q (inr (n, c)) = subst (LacksStart bits) (out-same (sym (lacks-answers c) ∙ q)) c
+
+  lacks-range : {m : ℕ} → LacksStart bits m → (1 ≤ m) × (m ≤ 9)
+  lacks-range (of-nine few) = (omega arith, omega arith)
+  lacks-range (no-one many z e) = (omega arith, omega arith)
+  lacks-range (few-after many z rest e few) = (omega arith, omega arith)
+
+  pub start-range : (m : ℕ) → startOf bytes count ≡ payloadOut m → (1 ≤ m) × (m ≤ 9)
+  start-range m e = lacks-range (start-out m .0 e .1)
+
+  pub start-missing : SaysMissing (startOf bytes count)
+  start-missing =
+      by-test (leb (length bytes) longestPayload) (λ t. subst SaysMissing (start-past (leb-true _ _ t)) (said starts))
+      (λ f. subst SaysMissing (start-over (leb-false _ _ f)) (says-none TOO-LONG (λ z. omega arith)))
+    where
+      said : Starts → SaysMissing starting
+      said (inl (x, e)) = subst SaysMissing (sym e) (says-done x)
+      said (inr (m, c)) = subst SaysMissing (sym (lacks-answers c)) (says-out m (lacks-range c .0))
 
 -- ── only the payload's bits count ──
 

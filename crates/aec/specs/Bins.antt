@@ -4,8 +4,9 @@ use mathlib.Core.List.{List, [], _∷_}
 use mathlib.Core.Bool.{Bool, true, cond, _&&_, _||_}
 use lib.ListN.{length, drop}
 use lib.Dec.{leb, ltb, eqb}
-use Rattle.answers.specs.Answers.{Outcome, done, refused, andThen, TOO-LONG, BAD-STATE, PAYLOAD-OUT}
+use Rattle.answers.specs.Answers.{Outcome, done, refused, andThen, TOO-LONG, BAD-STATE}
 use Rattle.answers.specs.Limits.{longestPayload, mostBits}
+use Rattle.answers.specs.Missing.{payloadOut}
 use Rattle.bits.specs.Bits.{payload, readAt, readOr}
 use Rattle.contexts.specs.Contexts.{goodContext, updateOf}
 use Rattle.contexts.specs.declared.Context.{Context}
@@ -33,9 +34,9 @@ refusedFirst bytes count x contexts =
 
 -- ── The next bit ──
 
--- PAYLOAD OUT: a bit is wanted and none is left
+-- PAYLOAD OUT: a bit is wanted and none is left. Bits are read one by one, so one is missing.
 abbrev pub noBit : {A : Type 0} → Outcome A
-noBit = refused PAYLOAD-OUT []
+noBit = payloadOut 1
 
 -- twice a number and the next bit, and the place after it; the list is the bits from the place on
 unfoldable pub doubleOf : List ℕ → ℕ → ℕ → Outcome (ℕ × ℕ)
@@ -64,7 +65,7 @@ settleOf bits rt vt place =
 unfoldable pub startOf : List ℕ → ℕ → Outcome State
 startOf bytes count =
     let bits = payload bytes count in
-    andThen (withinLimit bytes) (λ _. readOr (λ vt. settleOf bits 255 vt 9) noBit (readAt bits 0 9))
+    andThen (withinLimit bytes) (λ _. readOr (λ vt. settleOf bits 255 vt 9) payloadOut (readAt bits 0 9))
 
 -- ── "One bin" ──
 

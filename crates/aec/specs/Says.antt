@@ -1,7 +1,7 @@
 -- What each answer says in document 01's terms: its number, and its values.
 use Prim.Native.Nat.{ℕ}
-use mathlib.Core.List.{[]}
-use Rattle.answers.specs.Answers.{Outcome, done, refused, TOO-LONG, BAD-STATE, PAYLOAD-OUT}
+use mathlib.Core.List.{List, [], _∷_}
+use Rattle.answers.specs.Answers.{Carried, missing, Outcome, done, refused, TOO-LONG, BAD-STATE, PAYLOAD-OUT}
 use Rattle.aec.specs.declared.State.{State}
 use Rattle.contexts.specs.declared.Context.{Context}
 use Rattle.aec.specs.declared.Refusal.{Refusal}
@@ -15,14 +15,19 @@ use Rattle.aec.specs.declared.Decoded.the-variants as decoded
 use Rattle.aec.specs.declared.DecodedPair.{DecodedPair}
 use Rattle.aec.specs.declared.DecodedPair.the-variants as decoded-pair
 
--- a refusal's number; it carries nothing
+-- a refusal's number, and what it carries: PAYLOAD OUT how many bits were missing
 abbrev pub refusalNumber : Refusal → ℕ
 refusalNumber refusal.TooLong = TOO-LONG
 refusalNumber refusal.BadState = BAD-STATE
-refusalNumber refusal.PayloadOut = PAYLOAD-OUT
+refusalNumber (refusal.PayloadOut m) = PAYLOAD-OUT
+
+abbrev pub refusalCarries : Refusal → List Carried
+refusalCarries refusal.TooLong = []
+refusalCarries refusal.BadState = []
+refusalCarries (refusal.PayloadOut m) = missing m ∷ []
 
 abbrev pub refusalSays : {A : Type 0} → Refusal → Outcome A
-refusalSays r = refused (refusalNumber r) []
+refusalSays r = refused (refusalNumber r) (refusalCarries r)
 
 -- the start
 abbrev pub startedSays : Started → Outcome State

@@ -26,11 +26,11 @@ pub struct State {
     pub place: usize,
 }
 
-// Of a refusal the answer carries nothing else: state and contexts are the caller's own.
+// PayloadOut has how many bits were missing. A refusal carries nothing else: state and contexts are the caller's own.
 pub enum Refusal {
     TooLong,
     BadState,
-    PayloadOut,
+    PayloadOut(u32),
 }
 
 pub enum Started {
@@ -119,15 +119,6 @@ fn good_state(x: State, end: usize) -> bool
     true
 }
 
-// The number of the payload's bits.
-fn bit_length(bytes: &[u8], count: usize) -> usize
-    requires { ⌜ length (now bytes) ≤ longestPayload ⌝ }
-    ensures { λ r. ⌜ r ≡ length (payload (now (bytes .entry)) count) ⌝ }
-{
-    let all = bytes.len() * 8;
-    if count < all { count } else { all }
-}
-
 // What is refused before a bit is read.
 fn guard(bytes: &[u8], count: usize, x: State, contexts: bool) -> Checked
     ensures { λ r. ⌜ checkedSays r ≡ refusedFirst (now (bytes .entry)) count x contexts ⌝ }
@@ -135,7 +126,7 @@ fn guard(bytes: &[u8], count: usize, x: State, contexts: bool) -> Checked
     if LIMIT < bytes.len() {
         return Checked::Refused(Refusal::TooLong);
     }
-    let end = bit_length(bytes, count);
+    let end = bits::bits_held(bytes, count);
     if !good_state(x, end) {
         return Checked::Refused(Refusal::BadState);
     }
@@ -153,7 +144,7 @@ fn take_bit(bytes: &[u8], count: usize, value: u32, place: usize) -> Doubled
     let twice = value * 2;
     match bits::read_bit(bytes, count, place) {
         Bit::Is(bit) => Doubled::Done(twice + bit, place + 1),
-        Bit::Missing => Doubled::Refused(Refusal::PayloadOut),
+        Bit::Missing => Doubled::Refused(Refusal::PayloadOut(1)),
     }
 }
 
@@ -237,8 +228,8 @@ pub fn start(bytes: &[u8], count: usize) -> Started
     }
     match bits::read_bits(bytes, count, 0, 9) {
         Read::Value(value) => settle(bytes, count, 255, value, 9),
-        Read::Missing => Started::Refused(Refusal::PayloadOut),
-        Read::TooWide => Started::Refused(Refusal::PayloadOut),
+        Read::Missing(missing) => Started::Refused(Refusal::PayloadOut(missing)),
+        Read::TooWide => Started::Refused(Refusal::TooLong), // never: nine bits are asked for
     }
 }
 

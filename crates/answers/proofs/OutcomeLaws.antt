@@ -4,6 +4,7 @@ use mathlib.Core.Path.{_≡_, refl, sym, ap, _∙_}
 use mathlib.Core.List.{List}
 use native.Mathlib.Omega.{arith}
 use Rattle.answers.specs.Answers.{Carried, Outcome, done, refused, mapDone, andThen, OneToOne}
+use Rattle.answers.specs.Missing.{payloadOut, SaysMissing, says-done, says-none, says-out}
 
 pub not-done : {P A : Type 0} {n : ℕ} {carried : List Carried} {a : A} → refused n carried ≡ done a → P
 not-done e = let z : _≡_ {A = ℕ} 0 1 = cc in absurd (omega arith)
@@ -16,6 +17,19 @@ done-one e = cc
 
 pub other-number : {P A : Type 0} {m n : ℕ} {carried more : List Carried} → _≡_ {A = Outcome A} (refused m carried) (refused n more) → (m ≡ n → ⊥) → P
 other-number e h = absurd (h cc)
+
+pub carried-same : {A : Type 0} {n : ℕ} {carried more : List Carried} → _≡_ {A = Outcome A} (refused n carried) (refused n more) → carried ≡ more
+carried-same e = cc
+
+-- PAYLOAD OUT says how many bits were missing
+pub out-same : {A : Type 0} {m n : ℕ} → _≡_ {A = Outcome A} (payloadOut m) (payloadOut n) → m ≡ n
+out-same e = cc
+
+-- another value for one that is done leaves what is said of missing bits
+pub says-mapped : {A B : Type 0} (f : A → B) {o : Outcome A} → SaysMissing o → SaysMissing (mapDone f o)
+says-mapped f (says-done a) = says-done (f a)
+says-mapped f (says-none n h) = says-none n h
+says-mapped f (says-out m h) = says-out m h
 
 -- ── one step after another ──
 

@@ -4,10 +4,12 @@ use mathlib.Core.Path.{_≡_}
 use mathlib.Core.List.{List, []}
 use mathlib.Core.Bool.{Bool, cond}
 
--- What a refusal carries: its offset in the stream, or "the bit place inside the body, counted from 0".
+-- What a refusal carries: its offset in the stream, "the bit place inside the body, counted from 0" (E1), or "how many more bits a
+-- failing read wanted" (E13).
 pub data Carried : Type 0 where
   at-offset : ℕ → Carried
   at-bit : ℕ → Carried
+  missing : ℕ → Carried
 
 -- An answer in the papers' terms: number 0 with its value, or the number of a refusal with what it carries.
 pub data Outcome (A : Type 0) : Type 0 where

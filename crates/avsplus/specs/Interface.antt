@@ -3,4 +3,4 @@ use Prim.Native.Nat.{ℕ}
 
 -- the number of this interface, raised when it changes
 abbrev pub version : ℕ
-version = 2
+version = 3

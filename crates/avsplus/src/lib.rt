@@ -36,7 +36,7 @@ ghost use Rattle.avsplus.specs.Interface.{version};
 pub extern "C" fn avsplus_version() -> u32
     ensures { λ r. ⌜ r ≡ version ⌝ }
 {
-    2
+    3
 }
 
 // ── recordings ──

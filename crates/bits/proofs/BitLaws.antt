@@ -2,19 +2,20 @@
 use Prim.Native.Nat.{ℕ, zero, suc, _+_, _-_, _*_, _/_, _%_, _^_, _≤_, _<_, min}
 use mathlib.Core.Path.{_≡_, refl, sym, ap, _∙_}
 use mathlib.Core.List.{List, [], _∷_, _++_}
+use mathlib.Core.Logic.{_⊎_, inl, inr}
 use native.Mathlib.Omega.{arith}
 use native.Mathlib.Nat.{mod-lt, pow-suc, div-one, div-div-eq-div-mul}
-use borrow.Author.Tests.{le-leb, lt-leb, leb-true, leb-false}
-use lib.Dec.{leb}
-use lib.ListN.{length, getD, take, drop, length-append, length-take, length-drop, drop-of-length-le, List·getD-append}
+use borrow.Author.Tests.{le-leb, lt-leb}
+use lib.ListN.{length, getD, take, drop, replicate, length-append, length-take, length-drop, drop-of-length-le, List·getD-append}
 use lib.Seq.{drop-drop, getD-take, getD-append-add}
 use Rattle.bits.specs.Lists.{All}
-use Rattle.bits.specs.Bits.{bitsIn, bitsOf, payload, bitAt, readOn, readAt}
+use Rattle.answers.specs.Results.{Result, good, bad}
+use Rattle.answers.proofs.ResultLaws.{not-good, not-bad, good-same, bad-same}
+use Rattle.bits.specs.Bits.{bitsIn, bitsOf, payload, bitAt, readOn, readAt, readSays, readWithin}
 use Rattle.bits.specs.declared.Bit.{Bit}
 use Rattle.bits.specs.declared.Bit.the-variants as bit
 use Rattle.bits.specs.declared.Read.the-variants as read
 use Rattle.bits.proofs.ListLaws.{all-append, all-drop, all-take, at-head}
-use Rattle.bits.proofs.TestLaws.{by-test}
 
 -- ── the bits of numbers and bytes ──
 
@@ -62,6 +63,18 @@ pub all-bits : (s : List ℕ) → All Binary (bitsOf s)
 unfolding bitsOf
 all-bits [] = tt
 all-bits (b ∷ s) = all-append Binary (bitsIn 8 b) (bitsOf s) (all-in 8 b) (all-bits s)
+
+-- every list of bits begins with zeros, and then a 1 or its end
+pub leading : (l : List ℕ) → All Binary l → (n : ℕ) × ((l ≡ replicate n 0) ⊎ ((rest : List ℕ) × (l ≡ replicate n 0 ++ (1 ∷ rest))))
+leading [] h = (0, inl refl)
+leading (zero ∷ l) h = more (leading l (h .1))
+  where
+    more : (n : ℕ) × ((l ≡ replicate n 0) ⊎ ((rest : List ℕ) × (l ≡ replicate n 0 ++ (1 ∷ rest)))) →
+        (n : ℕ) × ((0 ∷ l ≡ replicate n 0) ⊎ ((rest : List ℕ) × (0 ∷ l ≡ replicate n 0 ++ (1 ∷ rest))))
+    more (n, inl e) = (suc n, inl (ap (λ m. 0 ∷ m) e))
+    more (n, inr (rest, e)) = (suc n, inr (rest, ap (λ m. 0 ∷ m) e))
+leading (suc zero ∷ l) h = (0, inr (l, refl))
+leading (suc (suc b) ∷ l) h = let k = h .0 in absurd (omega arith)
 
 -- ── a payload's bits ──
 
@@ -131,33 +144,11 @@ bit-inside l place b t e = let d = sym (length-drop place l) ∙ ap length e in 
 
 -- ── any width ──
 
-pub read-fits : (l : List ℕ) (place width : ℕ) → width ≤ 32 → readAt l place width ≡ readOn 0 width (drop place l)
-unfolding readAt
-read-fits l place width h = simp (le-leb width 32 h)
-
-pub read-wide : (l : List ℕ) (place width : ℕ) → 32 < width → readAt l place width ≡ read.TooWide
-unfolding readAt
-read-wide l place width h = simp (lt-leb width 32 h)
-
--- a read that is not refused for its width has a width of at most 32
-pub not-wide : (l : List ℕ) (place width : ℕ) → (readAt l place width ≡ read.TooWide → ⊥) → width ≤ 32
-not-wide l place width h = by-test (leb width 32) (leb-true width 32) (λ f. absurd (h (read-wide l place width (leb-false width 32 f))))
-
--- and the other way: it is refused for its width alone
-on-narrow : (acc width : ℕ) (l : List ℕ) → readOn acc width l ≡ read.TooWide → ⊥
-unfolding readOn
-on-narrow acc zero l e = let z : _≡_ {A = ℕ} 0 1 = cc in omega arith
-on-narrow acc (suc width) [] e = let z : _≡_ {A = ℕ} 0 1 = cc in omega arith
-on-narrow acc (suc width) (b ∷ l) e = on-narrow (acc * 2 + b) width l e
-
-pub never-wide : (l : List ℕ) (place width : ℕ) → width ≤ 32 → readAt l place width ≡ read.TooWide → ⊥
-never-wide l place width h e = on-narrow 0 width (drop place l) (sym (read-fits l place width h) ∙ e)
-
 -- what was read writes the bits that it was read from, after those of `acc`
-pub read-writes : (acc w n : ℕ) (l : List ℕ) → All Binary l → readOn acc w l ≡ read.Value n → (take w l ≡ bitsIn w n) × (n / 2 ^ w ≡ acc)
+pub read-writes : (acc w n : ℕ) (l : List ℕ) → All Binary l → readOn acc w l ≡ good n → (take w l ≡ bitsIn w n) × (n / 2 ^ w ≡ acc)
 unfolding readOn bitsIn
-read-writes acc zero n l h e = let v : acc ≡ n = cc in (refl, simp div-one (sym v))
-read-writes acc (suc w) n [] h e = let z : _≡_ {A = ℕ} 0 1 = cc in absurd (omega arith)
+read-writes acc zero n l h e = let v = good-same e in (refl, simp div-one (sym v))
+read-writes acc (suc w) n [] h e = not-good e
 read-writes acc (suc w) n (b ∷ l) h e =
     let (bits, high) = read-writes (acc * 2 + b) w n l (h .1) e in
     let small = h .0 in
@@ -165,9 +156,9 @@ read-writes acc (suc w) n (b ∷ l) h e =
     (rw (m, bits), rw (pow-suc 2 w, ← div-div-eq-div-mul n (2 ^ w) 2) (omega arith))
 
 -- and bits that write n are read as n
-pub reads-written : (acc w n : ℕ) (l : List ℕ) → take w l ≡ bitsIn w n → n / 2 ^ w ≡ acc → readOn acc w l ≡ read.Value n
+pub reads-written : (acc w n : ℕ) (l : List ℕ) → take w l ≡ bitsIn w n → n / 2 ^ w ≡ acc → readOn acc w l ≡ good n
 unfolding readOn bitsIn
-reads-written acc zero n l e h = ap read.Value (sym h ∙ div-one n)
+reads-written acc zero n l e h = ap good (sym h ∙ div-one n)
 reads-written acc (suc w) n [] e h = let z : _≡_ {A = ℕ} 0 1 = cc (ap length e) in absurd (omega arith)
 reads-written acc (suc w) n (b ∷ l) e h =
     let x : b ≡ n / 2 ^ w % 2 = cc in
@@ -175,15 +166,48 @@ reads-written acc (suc w) n (b ∷ l) e h =
     let d : n / 2 ^ w / 2 ≡ acc = div-div-eq-div-mul n (2 ^ w) 2 ∙ (rw (pow-suc 2 w) at h) in
     reads-written (acc * 2 + b) w n l t (omega arith)
 
--- a read fails exactly where the bits are fewer than it wants
-pub read-lacks : (acc w : ℕ) (l : List ℕ) → readOn acc w l ≡ read.Missing → length l < w
+-- a read fails exactly where the bits are fewer than it wants, and by how many they are fewer
+pub read-lacks : (acc w m : ℕ) (l : List ℕ) → readOn acc w l ≡ bad m → (length l < w) × (m ≡ w - length l)
 unfolding readOn
-read-lacks acc zero l e = let z : _≡_ {A = ℕ} 0 1 = cc in absurd (omega arith)
-read-lacks acc (suc w) [] e = omega arith
-read-lacks acc (suc w) (b ∷ l) e = let r = read-lacks (acc * 2 + b) w l e in omega arith
+read-lacks acc zero m l e = not-bad e
+read-lacks acc (suc w) m [] e = let s = bad-same e in (omega arith, omega arith)
+read-lacks acc (suc w) m (b ∷ l) e = let r = read-lacks (acc * 2 + b) w m l e in (omega arith, omega arith)
 
-pub lacks-read : (acc w : ℕ) (l : List ℕ) → length l < w → readOn acc w l ≡ read.Missing
+pub lacks-read : (acc w : ℕ) (l : List ℕ) → length l < w → readOn acc w l ≡ bad (w - length l)
 unfolding readOn
 lacks-read acc zero l h = absurd (omega arith)
-lacks-read acc (suc w) [] h = refl
-lacks-read acc (suc w) (b ∷ l) h = lacks-read (acc * 2 + b) w l (omega arith)
+lacks-read acc (suc w) [] h = let e : suc w ≡ suc w - 0 = omega arith in ap bad e
+lacks-read acc (suc w) (b ∷ l) h =
+    let e : w - length l ≡ suc w - suc (length l) = omega arith in
+    lacks-read (acc * 2 + b) w l (omega arith) ∙ ap bad e
+
+-- ── within 32 bits ──
+
+pub within-wide : (l : List ℕ) (place width : ℕ) → 32 < width → readWithin l place width ≡ read.TooWide
+unfolding readWithin
+within-wide l place width h = simp (lt-leb width 32 h)
+
+pub within-is : (l : List ℕ) (place width : ℕ) → width ≤ 32 → readWithin l place width ≡ readSays (readAt l place width)
+unfolding readWithin
+within-is l place width h = simp (le-leb width 32 h)
+
+-- no two reads answer alike, and none answers TooWide
+pub says-same : (r s : Result ℕ ℕ) → readSays r ≡ readSays s → r ≡ s
+says-same (good m) (good n) e = let i : m ≡ n = cc in ap good i
+says-same (good m) (bad n) e = let z : _≡_ {A = ℕ} 0 1 = cc in absurd (omega arith)
+says-same (bad m) (good n) e = let z : _≡_ {A = ℕ} 0 1 = cc in absurd (omega arith)
+says-same (bad m) (bad n) e = let i : m ≡ n = cc in ap bad i
+
+pub says-wide : {P : Type 0} (r : Result ℕ ℕ) → readSays r ≡ read.TooWide → P
+says-wide (good v) e = let z : _≡_ {A = ℕ} 0 1 = cc in absurd (omega arith)
+says-wide (bad n) e = let z : _≡_ {A = ℕ} 0 1 = cc in absurd (omega arith)
+
+module _ (l : List ℕ) (place width : ℕ) (h : width ≤ 32) where
+  pub within-value : (n : ℕ) → readWithin l place width ≡ read.Value n → readAt l place width ≡ good n
+  within-value n e = says-same (readAt l place width) (good n) (sym (within-is l place width h) ∙ e)
+
+  pub within-missing : (m : ℕ) → readWithin l place width ≡ read.Missing m → readAt l place width ≡ bad m
+  within-missing m e = says-same (readAt l place width) (bad m) (sym (within-is l place width h) ∙ e)
+
+  pub never-wide : {P : Type 0} → readWithin l place width ≡ read.TooWide → P
+  never-wide e = says-wide (readAt l place width) (sym (within-is l place width h) ∙ e)

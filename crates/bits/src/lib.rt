@@ -1,8 +1,8 @@
 // Reading bits of bytes, most significant first.
 ghost use mathlib.Core.Path.{_≡_};
 ghost use Prim.Native.Nat.{_+_, _-_, _*_, _/_, _%_, _^_, _≤_, _<_};
-ghost use lib.ListN.{take, drop};
-ghost use Rattle.bits.specs.Bits.{bitsIn, bitsOf, payload, bitAt, readAt};
+ghost use lib.ListN.{length, take, drop};
+ghost use Rattle.bits.specs.Bits.{bitsIn, bitsOf, payload, bitAt, readWithin};
 
 // The bit at a place, or none.
 pub enum Bit {
@@ -10,11 +10,11 @@ pub enum Bit {
     Missing,
 }
 
-// What a read answers: the number that the bits write; Missing where one of them is not there, and then none is taken;
+// What a read answers: the number that the bits write; Missing with how many of them are not there, and then none is taken;
 // TooWide for a width over 32.
 pub enum Read {
     Value(u32),
-    Missing,
+    Missing(u32),
     TooWide,
 }
 
@@ -40,27 +40,42 @@ pub fn read_bit(bytes: &[u8], count: usize, place: usize) -> Bit
     Bit::Is(byte >> (7 - place % 8) & 1)
 }
 
-// The number in width bits from a place of the payload on, by whole bytes: all bits are there where the last one is.
+// How many bits the payload has. The count is divided, as the place is above.
+pub fn bits_held(bytes: &[u8], count: usize) -> usize
+    ensures { λ r. ⌜ r ≡ length (payload (now (bytes .entry)) count) ⌝ }
+{
+    if count / 8 < bytes.len() {
+        return count;
+    }
+    bytes.len() * 8
+}
+
+// How many of them are there from a place on.
+fn bits_left(bytes: &[u8], count: usize, place: usize) -> usize
+    ensures { λ r. ⌜ r ≡ length (payload (now (bytes .entry)) count) - place ⌝ }
+{
+    let held = bits_held(bytes, count);
+    if held <= place {
+        return 0;
+    }
+    held - place
+}
+
+// The number in width bits from a place of the payload on, by whole bytes.
 pub fn read_bits(bytes: &[u8], count: usize, place: usize, width: u32) -> Read
-    ensures { λ r. ⌜ r ≡ readAt (payload (now (bytes .entry)) count) place width ⌝ }
+    ensures { λ r. ⌜ r ≡ readWithin (payload (now (bytes .entry)) count) place width ⌝ }
 {
     if 32 < width {
         return Read::TooWide;
     }
+    let left = bits_left(bytes, count, place);
+    if left < width as usize {
+        return Read::Missing(width - left as u32);
+    }
     if width == 0 {
         return Read::Value(0);
     }
-    let more = (width - 1) as usize; // bits after the first
-    if count <= more {
-        return Read::Missing;
-    }
-    if count - more <= place {
-        return Read::Missing;
-    }
-    let last = place + more;
-    if bytes.len() <= last / 8 {
-        return Read::Missing;
-    }
+    let last = place + (width - 1) as usize;
     Read::Value(cut(number(bytes, place / 8, last / 8 + 1), 7 - last % 8, width))
 }
 

@@ -14,7 +14,6 @@ use Rattle.answers.specs.Answers.{Carried, refused, SHORT}
 use Rattle.bits.specs.Bits.{bitsOf, bitAt, readOn, readAt}
 use Rattle.bits.specs.declared.Bit.{Bit}
 use Rattle.bits.specs.declared.Bit.the-variants as bit
-use Rattle.bits.specs.declared.Read.the-variants.{Value}
 use Rattle.bits.proofs.TestLaws.{by-test, and-true}
 use Rattle.layout.specs.Layouts.{fields}
 use Rattle.bodies.specs.Records.{headerRecord, plainRecord, colouredRecord, copyrightRecord}
@@ -146,7 +145,7 @@ display-bad body why = (from-result, to-result)
 -- ── extensions ──
 
 -- a body with a byte has a number
-pub number-there : (body : List ℕ) → body ≢ [] → (n : ℕ) × (numberOf body ≡ Value n)
+pub number-there : (body : List ℕ) → body ≢ [] → (n : ℕ) × (numberOf body ≡ good n)
 number-there body h = let (n, k) = has-number body h in (n, number-iff body n .1 k)
 
 number-breaks : (scope : Scope) (body : List ℕ) (n : ℕ) (why : Fault) → HasNumber body n → notCopyright scope body n ≡ bad why → BreaksExtension scope body why

@@ -13,10 +13,8 @@ use Rattle.answers.specs.Answers.{Carried, done, refused}
 use Rattle.bits.specs.Bits.{bitsOf, bitAt, readOn, readAt}
 use Rattle.bits.specs.declared.Bit.{Bit}
 use Rattle.bits.specs.declared.Bit.the-variants as bit
-use Rattle.bits.specs.declared.Read.{Read}
-use Rattle.bits.specs.declared.Read.the-variants as read
 use Rattle.bits.proofs.TestLaws.{by-test}
-use Rattle.bits.proofs.BitLaws.{read-fits, bit-here}
+use Rattle.bits.proofs.BitLaws.{bit-here}
 use Rattle.layout.specs.Layouts.{widthOf, marker, fields, bitCount, leastBytes}
 use Rattle.bodies.specs.Records.{headerRecord, plainRecord, colouredRecord, copyrightRecord}
 use Rattle.layout.specs.Obeys.{Fits, Obeys}
@@ -25,6 +23,7 @@ use Rattle.bodies.specs.Extensions.{HasNumber, ColourGiven}
 use Rattle.layout.specs.Breaks.{Holds}
 use Rattle.layout.specs.Reader.{Result, readValue, valuesOf, reading}
 use Rattle.bodies.specs.Reader.{recorded, recordOf, headerOf, plainOf, colouredOf, copyrightOf, displayShort, displayOf, numberOf, notCopyright, byNumber, extensionResult, extensionOf}
+use Rattle.answers.specs.Results as results
 use Rattle.answers.specs.Results.{good, bad, _>>=_}
 use Rattle.bodies.specs.Answers.{faultNumber, faultBit, answerOf, Extension, display, copyright, opaque}
 use Rattle.layout.specs.declared.Field.{Field}
@@ -106,37 +105,38 @@ coloured-made vs f = (_, ap colouredRecord (spelled 11 vs (fits-length (fields C
 -- ── what a body's fields are ──
 
 value-read : (bits : List ℕ) (fs : List Field) (at : ℕ) (vs : List ℕ) (i : ℕ) → valuesOf fs at bits ≡ good vs → i < length fs →
-    readAt bits (at + bitCount (take i fs)) (widthOf (getD fs i marker)) ≡ read.Value (getD vs i 0)
+    readAt bits (at + bitCount (take i fs)) (widthOf (getD fs i marker)) ≡ good (getD vs i 0)
 unfolding valuesOf
 value-read bits [] at vs i e h = absurd (omega arith)
 value-read bits (f ∷ fs) at vs zero e h =
     let first = bind-good (readValue (readAt bits at (widthOf f))) _ vs e in
     let later = bind-good (valuesOf fs (at + widthOf f) bits) _ vs (first .2) in
     let z : at + 0 ≡ at = omega arith in
-    rw z (value-good _ _ (first .1) ∙ ap (λ (l : List ℕ). read.Value (getD l 0 0)) (good-same (later .2)))
+    rw z (value-good _ _ (first .1) ∙ ap (λ (l : List ℕ). good (getD l 0 0)) (good-same (later .2)))
 value-read bits (f ∷ fs) at vs (suc i) e h =
     let first = bind-good (readValue (readAt bits at (widthOf f))) _ vs e in
     let later = bind-good (valuesOf fs (at + widthOf f) bits) _ vs (first .2) in
     let z : at + (widthOf f + bitCount (take i fs)) ≡ at + widthOf f + bitCount (take i fs) = omega arith in
-    rw z (value-read bits fs (at + widthOf f) (later .0) i (later .1) (omega arith) ∙ ap (λ (l : List ℕ). read.Value (getD l (suc i) 0)) (good-same (later .2)))
+    rw z (value-read bits fs (at + widthOf f) (later .0) i (later .1) (omega arith) ∙ ap (λ (l : List ℕ). good (getD l (suc i) 0)) (good-same (later .2)))
 
 -- a body's field i has value i
 held-field : (layout : Layout) (body vs end : List ℕ) → Holds layout body vs end → (i : ℕ) → i < length (fields layout) →
-    readAt (bitsOf body) (bitCount (take i (fields layout))) (widthOf (getD (fields layout) i marker)) ≡ read.Value (getD vs i 0)
+    readAt (bitsOf body) (bitCount (take i (fields layout))) (widthOf (getD (fields layout) i marker)) ≡ good (getD vs i 0)
 held-field layout body vs end h i k =
     let z : bitCount (take i (fields layout)) ≡ 0 + bitCount (take i (fields layout)) = omega arith in
     rw z (value-read (bitsOf body) (fields layout) 0 vs i (held-read layout body vs end h) k)
 
-bit-value : (l : List ℕ) (at v : ℕ) (m : List ℕ) → drop at l ≡ m → readOn 0 1 m ≡ read.Value v → bitAt l at ≡ bit.Is v
+bit-value : (l : List ℕ) (at v : ℕ) (m : List ℕ) → drop at l ≡ m → readOn 0 1 m ≡ good v → bitAt l at ≡ bit.Is v
 unfolding readOn
-bit-value l at v [] d e = let z : _≡_ {A = ℕ} 0 1 = cc in absurd (omega arith)
+bit-value l at v [] d e = not-good e
 bit-value l at v (b ∷ m) d e =
-    let s : 0 * 2 + b ≡ v = cc in
+    let s : 0 * 2 + b ≡ v = good-same e in
     let t : b ≡ v = omega arith in
     sym (bit-here l at b m d) ∙ ap bit.Is t
 
-colour-bit : (body : List ℕ) (v : ℕ) → readAt (bitsOf body) 8 1 ≡ read.Value v → bitAt (bitsOf body) 8 ≡ bit.Is v
-colour-bit body v e = bit-value (bitsOf body) 8 v (drop 8 (bitsOf body)) refl (sym (read-fits (bitsOf body) 8 1 (omega arith)) ∙ e)
+colour-bit : (body : List ℕ) (v : ℕ) → readAt (bitsOf body) 8 1 ≡ good v → bitAt (bitsOf body) 8 ≡ bit.Is v
+unfolding readAt
+colour-bit body v e = bit-value (bitsOf body) 8 v (drop 8 (bitsOf body)) refl e
 
 -- ── display extensions ──
 
@@ -227,7 +227,7 @@ extension-if scope body x e =
 
 by-number : (scope : Scope) (body : List ℕ) (n : ℕ) → HasNumber body n → extensionResult scope body ≡ byNumber scope body n
 unfolding extensionResult
-by-number scope body n h = ap (λ (x : Read). readValue x >>= byNumber scope body) (number-iff body n .1 h)
+by-number scope body n h = ap (λ (x : results.Result ℕ ℕ). readValue x >>= byNumber scope body) (number-iff body n .1 h)
 
 pub if-as-display : (body : List ℕ) (d : DisplayExtension) → DisplayBody body d → extensionResult Head body ≡ good (display d)
 unfolding byNumber

@@ -10,8 +10,8 @@ use lib.Dec.{eqb}
 use lib.ListN.{length, take}
 use lib.Seq.{take-length}
 use Rattle.bits.specs.Bits.{bitsIn, bitsOf, payload, readOn, readAt}
-use Rattle.bits.specs.declared.Read.{Read}
-use Rattle.bits.specs.declared.Read.the-variants.{Value, Missing, TooWide}
+use Rattle.answers.specs.Results.{Result, good, bad}
+use Rattle.answers.proofs.ResultLaws.{good-same}
 use Rattle.bits.proofs.TestLaws.{by-test, contrary, and-true}
 use Rattle.bits.proofs.BitLaws.{length-in}
 use Rattle.bits.proofs.Main.{read-exactly}
@@ -43,18 +43,18 @@ numbered-iff n body =
     )
 
 -- the read's number is the body's
-pub number-iff : (body : List ℕ) (n : ℕ) → (numberOf body ≡ Value n) ↔ HasNumber body n
+pub number-iff : (body : List ℕ) (n : ℕ) → (numberOf body ≡ good n) ↔ HasNumber body n
 number-iff body n =
     let all : payload body (length (bitsOf body)) ≡ bitsOf body = take-length (bitsOf body) in
     let r = read-exactly body (length (bitsOf body)) 0 4 n in (
       (λ e. let x = r .0 (ap (λ (l : List ℕ). readAt l 0 4) all ∙ e) in
-          record { small = x .1; bits = numbered-iff n body .1 (ap (take 4) (sym all) ∙ x .2) }),
-      λ h. ap (λ (l : List ℕ). readAt l 0 4) (sym all) ∙ r .1 (omega arith, h .small, ap (take 4) all ∙ numbered-iff n body .0 (h .bits)),
+          record { small = x .0; bits = numbered-iff n body .1 (ap (take 4) (sym all) ∙ x .1) }),
+      λ h. ap (λ (l : List ℕ). readAt l 0 4) (sym all) ∙ r .1 (h .small, ap (take 4) all ∙ numbered-iff n body .0 (h .bits)),
     )
 
 -- a body has one number
 pub number-one : (body : List ℕ) (m n : ℕ) → HasNumber body m → HasNumber body n → m ≡ n
-number-one body m n h k = let e : Value m ≡ Value n = sym (number-iff body m .1 h) ∙ number-iff body n .1 k in cc
+number-one body m n h k = good-same (sym (number-iff body m .1 h) ∙ number-iff body n .1 k)
 
 -- a body with a byte has one
 pub has-number : (body : List ℕ) → body ≢ [] → (n : ℕ) × HasNumber body n
@@ -71,15 +71,13 @@ number-byte (byte ∷ body) n h e = let z : _≡_ {A = ℕ} 0 1 = cc in omega ar
 -- ── tests of the number ──
 
 -- whether the number that was read is n
-abbrev pub isRead : ℕ → Read → Bool
-isRead n (Value m) = eqb m n
-isRead n Missing = false
-isRead n TooWide = false
+abbrev pub isRead : ℕ → Result ℕ ℕ → Bool
+isRead n (good m) = eqb m n
+isRead n (bad m) = false
 
-not-read : (n : ℕ) (r : Read) → r ≢ Value n → isRead n r ≡ false
-not-read n (Value m) h = ne-eqb m n (λ e. h (ap Value e))
-not-read n Missing h = refl
-not-read n TooWide h = refl
+not-read : (n : ℕ) (r : Result ℕ ℕ) → r ≢ good n → isRead n r ≡ false
+not-read n (good m) h = ne-eqb m n (λ e. h (ap good e))
+not-read n (bad m) h = refl
 
 pub numbered-read : (body : List ℕ) (n : ℕ) → n < 16 → numbered n body ≡ isRead n (numberOf body)
 numbered-read body n k =
@@ -95,19 +93,16 @@ abbrev pub opaqueNumber : Scope → ℕ → Bool
 opaqueNumber Head n = not (eqb n 4) && not (eqb n 2)
 opaqueNumber Picture n = not (eqb n 4)
 
-abbrev pub opaqueRead : Scope → Read → Bool
-opaqueRead scope (Value n) = opaqueNumber scope n
-opaqueRead scope Missing = true
-opaqueRead scope TooWide = true
+abbrev pub opaqueRead : Scope → Result ℕ ℕ → Bool
+opaqueRead scope (good n) = opaqueNumber scope n
+opaqueRead scope (bad m) = true
 
-pub opaque-read : (scope : Scope) (body : List ℕ) (r : Read) → numberOf body ≡ r → isOpaque scope body ≡ opaqueRead scope r
+pub opaque-read : (scope : Scope) (body : List ℕ) (r : Result ℕ ℕ) → numberOf body ≡ r → isOpaque scope body ≡ opaqueRead scope r
 unfolding isOpaque
-opaque-read Head body (Value n) e = rw (numbered-read body 4 (omega arith), numbered-read body 2 (omega arith), e)
-opaque-read Head body Missing e = rw (numbered-read body 4 (omega arith), numbered-read body 2 (omega arith), e)
-opaque-read Head body TooWide e = rw (numbered-read body 4 (omega arith), numbered-read body 2 (omega arith), e)
-opaque-read Picture body (Value n) e = rw (numbered-read body 4 (omega arith), e)
-opaque-read Picture body Missing e = rw (numbered-read body 4 (omega arith), e)
-opaque-read Picture body TooWide e = rw (numbered-read body 4 (omega arith), e)
+opaque-read Head body (good n) e = rw (numbered-read body 4 (omega arith), numbered-read body 2 (omega arith), e)
+opaque-read Head body (bad m) e = rw (numbered-read body 4 (omega arith), numbered-read body 2 (omega arith), e)
+opaque-read Picture body (good n) e = rw (numbered-read body 4 (omega arith), e)
+opaque-read Picture body (bad m) e = rw (numbered-read body 4 (omega arith), e)
 
 opaque-number : (scope : Scope) (n : ℕ) → (opaqueNumber scope n ≡ true) ↔ ((n ≢ 4) × (scope ≡ Head → n ≢ 2))
 opaque-number Head n = (
@@ -122,5 +117,5 @@ opaque-number Picture n = (
 -- an extension of number n is opaque where n is neither 4 nor, in a head, 2
 pub opaque-test : (scope : Scope) (body : List ℕ) (n : ℕ) → HasNumber body n → (isOpaque scope body ≡ true) ↔ ((n ≢ 4) × (scope ≡ Head → n ≢ 2))
 opaque-test scope body n h =
-    let e = opaque-read scope body (Value n) (number-iff body n .1 h) in
+    let e = opaque-read scope body (good n) (number-iff body n .1 h) in
     let i = opaque-number scope n in ((λ t. i .0 (sym e ∙ t)), λ k. e ∙ i .1 k)

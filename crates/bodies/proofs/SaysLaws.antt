@@ -4,7 +4,7 @@ use mathlib.Core.Path.{_≡_, refl, ap}
 use mathlib.Core.List.{List, [], _∷_}
 use mathlib.Core.Bool.{cond}
 use lib.Dec.{eqb}
-use Rattle.answers.specs.Answers.{Carried, at-offset, at-bit, Outcome, done, refused, OneToOne, SHORT, MARKER, STUFFING}
+use Rattle.answers.specs.Answers.{Carried, at-offset, at-bit, missing, Outcome, done, refused, OneToOne, SHORT, MARKER, STUFFING}
 use Rattle.answers.specs.Results.{Result, good, bad}
 use Rattle.answers.proofs.OutcomeLaws.{undone}
 use Rattle.bodies.specs.Answers.{valueNumber, faultNumber, faultBit, answerOf, headerGives, headerSays, Extension, display, copyright, opaque, extensionGives, extensionSays}
@@ -33,6 +33,7 @@ abbrev atBit : (ℕ → Fault) → List Carried → Fault
 atBit fault [] = Short
 atBit fault (at-offset n ∷ more) = Short
 atBit fault (at-bit n ∷ more) = fault n
+atBit fault (missing n ∷ more) = Short
 
 pub faultOf : ℕ → List Carried → Fault
 faultOf n carried = cond (eqb n SHORT) Short (cond (eqb n STUFFING) Stuffing (cond (eqb n MARKER) (atBit Marker carried) (atBit (Value (fieldOf n)) carried)))

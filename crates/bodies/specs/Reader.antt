@@ -5,11 +5,11 @@ use mathlib.Core.Bool.{Bool, false, cond, _&&_, _||_}
 use mathlib.Core.Option.{Option, none, some}
 use lib.Dec.{eqb}
 use Rattle.answers.specs.Answers.{Outcome}
+use Rattle.answers.specs.Results as results
 use Rattle.answers.specs.Results.{good, bad, _>>=_}
 use Rattle.bits.specs.Bits.{bitsOf, bitAt, readAt}
 use Rattle.bits.specs.declared.Bit.{Bit}
 use Rattle.bits.specs.declared.Bit.the-variants as bit
-use Rattle.bits.specs.declared.Read.{Read}
 use Rattle.layout.specs.Reader.{Result, _>>_, refuseIf, readValue, short, reading}
 use Rattle.layout.specs.declared.Layout.{Layout}
 use Rattle.layout.specs.declared.Layout.the-variants.{Header, Display, Coloured, Copyright}
@@ -82,7 +82,7 @@ displayOf body = do
   cond (eqb colour 1) (colouredOf body) (plainOf body)
 
 -- An extension's number is its body's first four bits.
-abbrev pub numberOf : List ℕ → Read
+abbrev pub numberOf : List ℕ → results.Result ℕ ℕ
 numberOf body = readAt (bitsOf body) 0 4
 
 -- Number 2 in a group's head is the display extension; after a picture header it is opaque.

@@ -9,6 +9,7 @@ ghost use mathlib.Core.Path.{_≡_};
 ghost use mathlib.Core.Option.{some};
 ghost use Prim.Native.Nat.{_<_};
 ghost use lib.ListN.{length};
+ghost use Rattle.bits.specs.Bits.{readSays};
 ghost use Rattle.layout.specs.Layouts.{headerFields, copyrightFields, fields};
 ghost use Rattle.layout.specs.Obeys.{Fits};
 ghost use Rattle.bodies.specs.Extensions.{numbered, isOpaque};
@@ -248,10 +249,10 @@ fn wide(x: u8) -> u32
 
 // An extension's number, the upper half of its first byte; an empty body has none.
 fn number_of(body: &[u8]) -> Read
-    ensures { λ r. ⌜ r ≡ numberOf (now (body .entry)) ⌝ }
+    ensures { λ r. ⌜ r ≡ readSays (numberOf (now (body .entry))) ⌝ }
 {
     if body.len() == 0 {
-        return Read::Missing;
+        return Read::Missing(4);
     }
     Read::Value(wide(body[0]) / 16)
 }
@@ -262,8 +263,8 @@ pub fn is_display(body: &[u8]) -> bool
 {
     match number_of(body) {
         Read::Value(number) => number == 2,
-        Read::Missing => false,
-        Read::TooWide => false,
+        Read::Missing(_) => false,
+        Read::TooWide => false, // never, here and below: four bits are read
     }
 }
 
@@ -276,7 +277,7 @@ pub fn is_opaque(body: &[u8], scope: Scope) -> bool
             Scope::Head => number != 4 && number != 2,
             Scope::Picture => number != 4,
         },
-        Read::Missing => true,
+        Read::Missing(_) => true,
         Read::TooWide => true,
     }
 }
@@ -338,7 +339,7 @@ pub fn extension(body: &[u8], scope: Scope) -> ExtensionAnswer
 {
     match number_of(body) {
         Read::Value(number) => by_number(number, body, scope),
-        Read::Missing => ExtensionAnswer::Refused(Fault::Short),
+        Read::Missing(_) => ExtensionAnswer::Refused(Fault::Short),
         Read::TooWide => ExtensionAnswer::Refused(Fault::Short),
     }
 }

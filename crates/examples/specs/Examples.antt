@@ -4,7 +4,8 @@ use mathlib.Core.Path.{_≡_}
 use mathlib.Core.List.{List, [], _∷_, _++_}
 use lib.IntN.{ℤ, pos, negℤ}
 use lib.ListN.{length}
-use Rattle.answers.specs.Answers.{Carried, at-offset, at-bit, Outcome, done, refused, mapDone, NO-CODE, CUT, STUFFING, UNENDED, FULL, PAYLOAD-OUT, VALUE-SLICE-ROW, andThen}
+use Rattle.answers.specs.Answers.{Carried, at-offset, at-bit, Outcome, done, refused, mapDone, NO-CODE, CUT, STUFFING, UNENDED, FULL, VALUE-SLICE-ROW, andThen}
+use Rattle.answers.specs.Missing.{payloadOut}
 use Rattle.bits.specs.Lists.{All}
 use Rattle.startcode.specs.declared.Kind.{Kind}
 use Rattle.bodies.specs.Reader.{headerOf}
@@ -131,9 +132,9 @@ examples =
     ∷ binsOf (λ x c. stateNumbers x ++ contextNumbers c) 1 (0x80 ∷ 0x40 ∷ 0x00 ∷ []) 24 gives done (1 ∷ 0 ∷ 254 ∷ 8 ∷ 0 ∷ 18 ∷ 1 ∷ 827 ∷ 1 ∷ [])
     -- 11: bins 0, 0, 1; then rT 188, valueS 0, valueT 28, place 12; lg 927, cycno 2
     ∷ binsOf (λ x c. x .rt ∷ x .vs ∷ x .vt ∷ x .place ∷ c .lg ∷ c .cycno ∷ []) 3 (0x40 ∷ 0x00 ∷ []) 16 gives done (0 ∷ 0 ∷ 1 ∷ 188 ∷ 0 ∷ 28 ∷ 12 ∷ 927 ∷ 2 ∷ [])
-    -- 12: start done; the first bin PAYLOAD OUT
+    -- 12: start done; the first bin PAYLOAD OUT, with one bit missing (E13)
     ∷ binsOf (λ x c. []) 0 (0x80 ∷ 0x00 ∷ []) 16 gives done []
-    ∷ binsOf (λ x c. []) 1 (0x80 ∷ 0x00 ∷ []) 16 gives refused PAYLOAD-OUT []
+    ∷ binsOf (λ x c. []) 1 (0x80 ∷ 0x00 ∷ []) 16 gives payloadOut 1
     ∷ []
 
 -- each answer is the table's

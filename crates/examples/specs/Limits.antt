@@ -8,6 +8,7 @@ use lib.IntN.{ℤ, pos, negℤ}
 use lib.ListN.{length, take, replicate}
 use Rattle.answers.specs.Answers.{Outcome, done, refused, mapDone, NO-CODE, CUT, OVERLAP, UNKNOWN, OUT-OF-PLACE, SHORT, MARKER, VALUE, STUFFING, TWICE, UNENDED, FULL, TOO-LONG, PAYLOAD-OUT, BAD-STATE, NO-ROW, VALUE-WIDTH, VALUE-HEIGHT, VALUE-CHROMA, VALUE-PRECISION, VALUE-ASPECT, VALUE-RATE, VALUE-TRANSFER, VALUE-MATRIX, VALUE-STEREO, VALUE-COPYRIGHT-OWNER, VALUE-COPYRIGHT-NUMBER, VALUE-SLICE-ORDER, VALUE-SLICE-ROW}
 use Rattle.answers.specs.Limits.{longestStream, longestPayload, mostBits}
+use Rattle.answers.specs.Missing.{payloadOut, missingIn}
 use Rattle.startcode.specs.Kinds.{kindOf}
 use Rattle.startcode.specs.declared.Kind.the-variants as kind
 use Rattle.bodies.specs.Answers.{Extension, display, copyright, opaque}
@@ -51,9 +52,17 @@ status (refused number carried) = number
 abbrev pub refusal : {A : Type 0} → Outcome A → Outcome (List ℕ)
 refusal o = mapDone (λ a. []) o
 
+abbrev pub missingOf : {A : Type 0} → Outcome A → ℕ
+missingOf (done a) = 0
+missingOf (refused number carried) = missingIn carried
+
 -- the numbers of the answers for some values
 abbrev pub statuses : {A : Type 0} → (ℕ → Outcome A) → List ℕ → Outcome (List ℕ)
 statuses answer values = done (map (λ v. status (answer v)) values)
+
+-- how many bits are missing in them, where they carry that
+abbrev pub missings : {A : Type 0} → (ℕ → Outcome A) → List ℕ → Outcome (List ℕ)
+missings answer values = done (map (λ v. missingOf (answer v)) values)
 
 -- ── bodies ──
 
@@ -705,11 +714,11 @@ payloadLimits =
     -- 31 zeros, and 32, which are VALUE whatever follows; where the bits end first, PAYLOAD OUT
     ∷ numberAt (afterZeros (0x00 ∷ 0x00 ∷ 0x00 ∷ 0x00 ∷ [])) 63 0 gives done (2147483647 ∷ 63 ∷ [])
     ∷ numberAt (afterZeros (0xFF ∷ 0xFF ∷ 0xFF ∷ 0xFE ∷ [])) 63 0 gives done (4294967294 ∷ 63 ∷ [])
-    ∷ numberAt (afterZeros (0xFF ∷ 0xFF ∷ 0xFF ∷ 0xFE ∷ [])) 62 0 gives no PAYLOAD-OUT
-    ∷ numberAt (afterZeros []) 32 0 gives no PAYLOAD-OUT
-    ∷ numberAt (afterZeros []) 31 0 gives no PAYLOAD-OUT
+    ∷ numberAt (afterZeros (0xFF ∷ 0xFF ∷ 0xFF ∷ 0xFE ∷ [])) 62 0 gives payloadOut 1
+    ∷ numberAt (afterZeros []) 32 0 gives payloadOut 31
+    ∷ numberAt (afterZeros []) 31 0 gives payloadOut 1
     ∷ numberAt (replicate 4 0) 32 0 gives no VALUE
-    ∷ numberAt (replicate 4 0) 32 1 gives no PAYLOAD-OUT
+    ∷ numberAt (replicate 4 0) 32 1 gives payloadOut 1
     ∷ numberAt (replicate 4 0 ++ 0x80 ∷ 0 ∷ 0 ∷ 0 ∷ 0 ∷ []) 72 0 gives no VALUE
     ∷ numberAt (replicate 4 0 ++ 0x80 ∷ 0 ∷ 0 ∷ 0 ∷ 0 ∷ []) 72 1 gives done (2147483647 ∷ 64 ∷ [])
     -- z zeros, a 1, z bits, from a place: 00110 is 5, 0001010 is 9
@@ -719,10 +728,19 @@ payloadLimits =
     ∷ numberAt (0x14 ∷ []) 8 3 gives done (0 ∷ 4 ∷ [])
     -- the last bit, and past it, where the bit count or the bytes end
     ∷ numberAt (0xFF ∷ []) 4 3 gives done (0 ∷ 4 ∷ [])
-    ∷ numberAt (0xFF ∷ []) 4 4 gives no PAYLOAD-OUT
+    ∷ numberAt (0xFF ∷ []) 4 4 gives payloadOut 1
     ∷ numberAt (0xFF ∷ []) 99 7 gives done (0 ∷ 8 ∷ [])
-    ∷ numberAt (0xFF ∷ []) 99 8 gives no PAYLOAD-OUT
-    ∷ numberAt (0xFF ∷ []) 8 99 gives no PAYLOAD-OUT
+    ∷ numberAt (0xFF ∷ []) 99 8 gives payloadOut 1
+    ∷ numberAt (0xFF ∷ []) 8 99 gives payloadOut 1
+    -- how many bits are missing: zeros and the 1 bit by bit, the z bits after it at once; z is 0, 3, 7 and 31
+    ∷ missings (λ bits. numberAt (0x80 ∷ []) bits 0) (0 ∷ 1 ∷ []) gives done (1 ∷ 0 ∷ [])
+    ∷ missings (λ bits. numberAt (0x1F ∷ []) bits 0) (0 ∷ 1 ∷ 2 ∷ 3 ∷ 4 ∷ 5 ∷ 6 ∷ 7 ∷ []) gives done (1 ∷ 1 ∷ 1 ∷ 1 ∷ 3 ∷ 2 ∷ 1 ∷ 0 ∷ [])
+    ∷ missings (λ bits. numberAt (0x01 ∷ 0xFF ∷ []) bits 0) (8 ∷ 9 ∷ 14 ∷ 15 ∷ []) gives done (7 ∷ 6 ∷ 1 ∷ 0 ∷ [])
+    ∷ missings (λ bits. numberAt (afterZeros (0xFF ∷ 0xFF ∷ 0xFF ∷ 0xFE ∷ [])) bits 0) (31 ∷ 32 ∷ 33 ∷ 47 ∷ 62 ∷ 63 ∷ []) gives done (1 ∷ 31 ∷ 30 ∷ 16 ∷ 1 ∷ 0 ∷ [])
+    -- by the bytes, where the bit count is greater; by the place of the number
+    ∷ numberAt (0x01 ∷ []) 99 0 gives payloadOut 7
+    ∷ missings (numberAt (0x01 ∷ []) 8) (0 ∷ 1 ∷ 6 ∷ 7 ∷ 8 ∷ 9 ∷ []) gives done (7 ∷ 6 ∷ 1 ∷ 0 ∷ 1 ∷ 1 ∷ [])
+    ∷ numberAt [] 0 0 gives payloadOut 1
     -- TOO LONG looks at the bytes, whatever the bit count
     ∷ numberAt (replicate 65536 0xFF) 1 0 gives done (0 ∷ 1 ∷ [])
     ∷ numberAt (replicate 65537 0xFF) 1 0 gives no TOO-LONG
@@ -750,6 +768,19 @@ binLimits =
     ∷ mapDone stateNumbers (startOf payload 24) gives done (0 ∷ 255 ∷ 0 ∷ 74 ∷ 9 ∷ [])
     ∷ mapDone stateNumbers (startOf (replicate 65536 0xFF) 9) gives done (0 ∷ 255 ∷ 0 ∷ 255 ∷ 9 ∷ [])
     ∷ mapDone stateNumbers (startOf (replicate 65537 0xFF) 9) gives no TOO-LONG
+    -- how many bits are missing: of the nine at once, by the bit count and by the bytes; then bit by bit, one
+    ∷ missings (startOf (0x80 ∷ 0x00 ∷ [])) (0 ∷ 1 ∷ 2 ∷ 3 ∷ 4 ∷ 5 ∷ 6 ∷ 7 ∷ 8 ∷ 9 ∷ []) gives done (9 ∷ 8 ∷ 7 ∷ 6 ∷ 5 ∷ 4 ∷ 3 ∷ 2 ∷ 1 ∷ 0 ∷ [])
+    ∷ missings (startOf []) (0 ∷ 99 ∷ []) gives done (9 ∷ 9 ∷ [])
+    ∷ missings (startOf (0x80 ∷ [])) (8 ∷ 99 ∷ []) gives done (1 ∷ 1 ∷ [])
+    ∷ missings (startOf (0x01 ∷ 0x00 ∷ [])) (8 ∷ 9 ∷ 15 ∷ 16 ∷ []) gives done (1 ∷ 1 ∷ 1 ∷ 0 ∷ [])
+    ∷ mapDone stateNumbers (startOf (0x00 ∷ 0x00 ∷ 0x00 ∷ []) 24) gives payloadOut 1
+    ∷ mapDone stateNumbers (startOf (0x00 ∷ 0x40 ∷ []) 16) gives payloadOut 1
+    -- of each kind of bin one: a doubling of R and of valueT, and the borrowed bit
+    ∷ oneBin 0 (state 0 200 0 100 24) gives payloadOut 1
+    ∷ oneBin 0 (state 0 99 0 100 24) gives payloadOut 1
+    ∷ pairBin (state 0 100 0 50 24) (context 0 500 0) (context 0 301 2) gives payloadOut 1
+    ∷ bypass (state 0 255 0 74 24) gives payloadOut 1
+    ∷ stuffing (state 0 254 0 253 24) gives payloadOut 1
     -- BAD STATE: rS, rT, valueS, valueT, place; the place by the bit count, or by the bytes where they hold fewer
     ∷ statuses (λ v. byState (state v 255 1 0 9)) (0 ∷ 1 ∷ 2 ∷ []) gives done (0 ∷ 0 ∷ 15 ∷ [])
     ∷ statuses (λ v. byState (state 0 v 1 0 9)) (0 ∷ 255 ∷ 256 ∷ []) gives done (0 ∷ 0 ∷ 15 ∷ [])
@@ -824,7 +855,7 @@ abbrev pub slips : List Example
 slips =
     -- filling missing bits with zeros: 00100 is 3, and wants its last bit
     numberAt (0x20 ∷ []) 5 0 gives done (3 ∷ 5 ∷ [])
-    ∷ numberAt (0x20 ∷ []) 4 0 gives no PAYLOAD-OUT
+    ∷ numberAt (0x20 ∷ []) 4 0 gives payloadOut 1
     ∷ statuses (startOf (0x80 ∷ [])) (8 ∷ 9 ∷ []) gives done (14 ∷ 14 ∷ [])
     -- reading number 2 after a picture header as a display extension
     ∷ afterPicture plainBody gives is 2

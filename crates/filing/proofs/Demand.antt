@@ -8,7 +8,7 @@ use lib.Dec.{ltb, leb, eqb}
 use lib.ListN.{length, drop}
 use borrow.Author.Tests.{lt-ltb, le-ltb, le-leb, ltb-false}
 use native.Mathlib.Omega.{arith}
-use Rattle.answers.specs.Answers.{Carried, at-offset, at-bit, Outcome, done, refused, OneToOne, FULL}
+use Rattle.answers.specs.Answers.{Carried, at-offset, at-bit, missing, Outcome, done, refused, OneToOne, FULL}
 use Rattle.answers.specs.Limits.{longestStream}
 use Rattle.answers.specs.Results.{good, bad, mapGood}
 use Rattle.answers.proofs.OutcomeLaws.{undone}
@@ -128,6 +128,7 @@ offsetOf : List Carried → ℕ
 offsetOf [] = 0
 offsetOf (at-offset n ∷ more) = n
 offsetOf (at-bit n ∷ more) = 0
+offsetOf (missing n ∷ more) = 0
 
 pub refusalOf : ℕ → List Carried → Refusal
 refusalOf n carried = record { reason = reasonOf n (drop 1 carried); offset = offsetOf carried }

@@ -11,7 +11,6 @@ use lib.Dec.{eqb}
 use lib.ListN.{length}
 use Rattle.answers.proofs.ResultLaws.{not-good, bind-good}
 use Rattle.bits.specs.declared.Bit.the-variants as bit
-use Rattle.bits.specs.declared.Read.the-variants.{Value}
 use Rattle.bits.proofs.TestLaws.{by-test}
 use Rattle.layout.specs.Reader.{readValue}
 use Rattle.bodies.specs.Reader.{recordOf, numberOf, headerResult, byNumber, notCopyright, extensionResult, displayShort, displayOf, plainOf, colouredOf, copyrightOf}
@@ -46,7 +45,7 @@ header-good body header = record-good Header headerRecord body header
 
 -- ── numbers ──
 
-two-is : (body : List ℕ) (n : ℕ) → numberOf body ≡ Value n → numbered 2 body ≡ false → eqb n 2 ≡ false
+two-is : (body : List ℕ) (n : ℕ) → numberOf body ≡ good n → numbered 2 body ≡ false → eqb n 2 ≡ false
 two-is body n e f = sym (numbered-by body n 2 (omega arith) (number-iff body n .0 e)) ∙ f
 
 -- ── copyright and opaque extensions ──
@@ -67,7 +66,7 @@ unfolding copyrightOf
 copyright-good body = layout-good Copyright copyrightRecord answers.copyright body copyright-made
 
 -- an extension that is no display extension where it stands
-module _ (body : List ℕ) (p : Scope) (plain : (n : ℕ) → numberOf body ≡ Value n → notCopyright p body n ≡ good (answers.opaque n)) where
+module _ (body : List ℕ) (p : Scope) (plain : (n : ℕ) → numberOf body ≡ good n → notCopyright p body n ≡ good (answers.opaque n)) where
   extension-good : ((x : answers.Extension) × (extensionResult p body ≡ good x)) ↔ Extension body
   unfolding extensionResult byNumber
   extension-good = (
@@ -86,7 +85,7 @@ module _ (body : List ℕ) (p : Scope) (plain : (n : ℕ) → numberOf body ≡ 
         let start : extensionResult p body ≡ byNumber p body (n .0) = rw (n .1) in
         by-test (eqb (n .0) 4)
         (λ t.
-        let four : numberOf body ≡ Value 4 = n .1 ∙ ap Value (eqb-true (n .0) 4 t) in
+        let four : numberOf body ≡ good 4 = n .1 ∙ ap good (eqb-true (n .0) 4 t) in
         let c = copyright-good body .1 (h .copyright (number-iff body 4 .0 four)) in
         (c .0, start ∙ rw t (c .1)))
         (λ f. (answers.opaque (n .0), start ∙ rw f (plain (n .0) (n .1)))),

@@ -10,18 +10,16 @@ use lib.Dec.{eqb, ltb}
 use lib.ListN.{length, take, drop, take-append-drop}
 use lib.Seq.{take-at, drop-at}
 use Rattle.answers.proofs.ResultLaws.{not-bad, bad-same}
-use Rattle.bits.specs.Lists.{All}
 use Rattle.bits.specs.Bits.{bitsOf, readAt}
-use Rattle.bits.specs.declared.Read.{Read}
-use Rattle.bits.specs.declared.Read.the-variants as read
 use Rattle.bits.proofs.TestLaws.{by-test, contrary}
-use Rattle.bits.proofs.BitLaws.{length-bits, never-wide}
+use Rattle.bits.proofs.BitLaws.{length-bits}
 use Rattle.bits.proofs.Main.{missing-exactly}
 use Rattle.layout.specs.Layouts.{widthOf, ruleOf, Allowed, Keeps, Wrong, fields, bitCount, leastBytes}
 use Rattle.layout.specs.Values.{Ownership, ownership}
 use Rattle.layout.specs.Obeys.{Fits, AllAllowed, written}
 use Rattle.layout.specs.Breaks.{Holds, FirstWrong, Disowned, unflagged, unowned, BreaksAcross, Breaks, short, wrong, across, ended}
 use Rattle.layout.specs.Reader.{allows, ruled, Result, _>>_, refuseIf, both, valuesOf, judge, ownerRules, ownedBy, cross, judged, stuffing, reading}
+use Rattle.answers.specs.Results as results
 use Rattle.answers.specs.Results.{good, bad, _>>=_}
 use Rattle.layout.specs.Reader as reader
 use Rattle.layout.specs.declared.JudgedField.the-variants.{CopyrightOwner, CopyrightNumber}
@@ -43,24 +41,22 @@ use Rattle.layout.proofs.ObeyLaws.{fine-then, both-fine, read-written, 
 
 -- ── a body that is long enough has all its values ──
 
-read-there : (l : List ℕ) (at w : ℕ) → w ≤ 32 → at + w ≤ length l → (x : Read) → readAt l at w ≡ x → (v : ℕ) × (readAt l at w ≡ read.Value v)
-read-there l at w n h (read.Value v) e = (v, e)
-read-there l at w n h read.Missing e = let m = missing-exactly l at w .0 e in absurd (omega (arith, m .1))
-read-there l at w n h read.TooWide e = absurd (never-wide l at w n e)
+read-there : (l : List ℕ) (at w : ℕ) → at + w ≤ length l → (x : results.Result ℕ ℕ) → readAt l at w ≡ x → (v : ℕ) × (readAt l at w ≡ good v)
+read-there l at w h (good v) e = (v, e)
+read-there l at w h (bad m) e = let few = missing-exactly l at w m .0 e .0 in absurd (omega arith)
 
-values-there : (l : List ℕ) (fs : List Field) (at : ℕ) → All (λ (f : Field). widthOf f ≤ 32) fs → at + bitCount fs ≤ length l →
-    (vs : List ℕ) × (valuesOf fs at l ≡ good vs)
-values-there l [] at n h = ([], unfold valuesOf in refl)
-values-there l (f ∷ fs) at n h =
-    let v = read-there l at (widthOf f) (n .0) (omega arith) (readAt l at (widthOf f)) refl in
-    let vs = values-there l fs (at + widthOf f) (n .1) (omega arith) in
+values-there : (l : List ℕ) (fs : List Field) (at : ℕ) → at + bitCount fs ≤ length l → (vs : List ℕ) × (valuesOf fs at l ≡ good vs)
+values-there l [] at h = ([], unfold valuesOf in refl)
+values-there l (f ∷ fs) at h =
+    let v = read-there l at (widthOf f) (omega arith) (readAt l at (widthOf f)) refl in
+    let vs = values-there l fs (at + widthOf f) (omega arith) in
     (v .0 ∷ vs .0, values-first (f ∷ fs) fs f at (v .0) l refl (v .1) ∙ ap (λ (r : Result (List ℕ)). r >>= (λ us. good (v .0 ∷ us))) (vs .1))
 
 -- what a body holds is what is read of it
 pub held-read : (layout : Layout) (body vs end : List ℕ) → Holds layout body vs end → valuesOf (fields layout) 0 (bitsOf body) ≡ good vs
 held-read layout body vs end h =
     let len = written-length (fields layout) vs (h .fits) in
-    written-read body (fields layout) 0 vs (table layout .narrow) (h .fits) (ap (take (bitCount (fields layout))) (h .bits) ∙ take-at (written (fields layout) vs) end _ len)
+    written-read body (fields layout) 0 vs (h .fits) (ap (take (bitCount (fields layout))) (h .bits) ∙ take-at (written (fields layout) vs) end _ len)
 
 held-end : (layout : Layout) (body vs end : List ℕ) → Holds layout body vs end → drop (bitCount (fields layout)) (bitsOf body) ≡ end
 held-end layout body vs end h = ap (drop (bitCount (fields layout))) (h .bits) ∙ drop-at (written (fields layout) vs) end _ (written-length (fields layout) vs (h .fits))
@@ -70,7 +66,7 @@ pub holds : (layout : Layout) (body : List ℕ) → leastBytes layout ≤ length
 holds layout body h =
     let t = table layout in
     let l = length-bits body in
-    let r = values-there (bitsOf body) (fields layout) 0 (t .narrow) (omega (arith, t .whole)) in
+    let r = values-there (bitsOf body) (fields layout) 0 (omega (arith, t .whole)) in
     let w = read-written body (fields layout) 0 (r .0) (r .1) in
     (r .0, record { long = h; fits = w .0; bits = sym (take-append-drop (bitCount (fields layout)) (bitsOf body)) ∙ ap (λ (l : List ℕ). l ++ drop (bitCount (fields layout)) (bitsOf body)) (w .1) })
 

@@ -11,8 +11,9 @@ use native.Mathlib.Nat.{div-eq-of-lt}
 use lib.ListN.{length, getD, take, drop, replicate}
 use lib.Seq.{take-all, drop-nil, drop-cons, drop-length, drop-append-add}
 use Rattle.bits.specs.Lists.{All}
+use Rattle.answers.specs.Results.{good}
+use Rattle.answers.proofs.ResultLaws.{good-same}
 use Rattle.bits.specs.Bits.{bitsIn, bitsOf, readOn}
-use Rattle.bits.specs.declared.Read.the-variants.{Value}
 use Rattle.bits.proofs.ListLaws.{all-drop}
 use Rattle.bits.proofs.TestLaws.{and-true}
 use Rattle.bits.proofs.BitLaws.{length-in, reads-written}
@@ -46,15 +47,14 @@ are-zeros zero = refl
 are-zeros (suc n) = are-zeros n
 
 -- a number that fits is known by its bits
-reads-itself : (w n : ℕ) → n < 2 ^ w → readOn 0 w (bitsIn w n) ≡ Value n
+reads-itself : (w n : ℕ) → n < 2 ^ w → readOn 0 w (bitsIn w n) ≡ good n
 reads-itself w n h =
     let t : take w (bitsIn w n) ≡ bitsIn w n = take-all w (bitsIn w n) (let l = length-in w n in omega arith) in
     reads-written 0 w n (bitsIn w n) t (div-eq-of-lt h)
 
 same-bits : (w m n : ℕ) → m < 2 ^ w → n < 2 ^ w → bitsIn w m ≡ bitsIn w n → m ≡ n
 same-bits w m n h k e =
-    let p : Value m ≡ Value n = sym (reads-itself w m h) ∙ ap (readOn 0 w) e ∙ reads-itself w n k in
-    cc
+    good-same (sym (reads-itself w m h) ∙ ap (readOn 0 w) e ∙ reads-itself w n k)
 
 zero-byte : (x : ℕ) → x < 256 → allZero (bitsIn 8 x) ≡ eqb x 0
 unfolding bitsIn

@@ -1,5 +1,5 @@
 -- Reading gives values exactly where the body obeys its layout with them.
-use Prim.Native.Nat.{ℕ, _+_, _*_, _^_, _≤_, _<_}
+use Prim.Native.Nat.{ℕ, _+_, _*_, _^_, _<_}
 use mathlib.Core.Path.{_≡_, refl, sym, ap, _∙_, subst}
 use mathlib.Core.Logic.{_↔_}
 use mathlib.Core.List.{List, [], _∷_, _++_}
@@ -11,10 +11,7 @@ use lib.Dec.{eqb, leb}
 use lib.ListN.{length, take, drop, replicate, length-append, take-append-drop}
 use lib.Seq.{take-all, take-at, drop-at, take-add, take-take, drop-drop}
 use Rattle.answers.proofs.ResultLaws.{not-good, good-same, bind-good}
-use Rattle.bits.specs.Lists.{All}
 use Rattle.bits.specs.Bits.{bitsIn, bitsOf, payload, readAt}
-use Rattle.bits.specs.declared.Read.{Read}
-use Rattle.bits.specs.declared.Read.the-variants as read
 use Rattle.bits.proofs.ListLaws.{drop-take}
 use Rattle.bits.proofs.TestLaws.{by-test, and-true}
 use Rattle.bits.proofs.BitLaws.{length-in, length-bits}
@@ -36,7 +33,6 @@ use Rattle.layout.specs.declared.Fault.{Fault}
 use Rattle.layout.specs.declared.Fault.the-variants as fault
 use Rattle.layout.specs.declared.Verdict.{Verdict}
 use Rattle.layout.specs.declared.Verdict.the-variants.{Fine, Faulty}
-use Rattle.layout.proofs.LayoutLaws.{table}
 use Rattle.layout.proofs.ReadingLaws.{value-good, values-first}
 use Rattle.layout.proofs.EndLaws.{zeros-are, are-zeros}
 use Rattle.layout.proofs.JudgeLaws.{reading-long}
@@ -68,7 +64,7 @@ fine-if t why e = rw e
 
 -- the fact of every width, of a body's bits
 abbrev pub Stands : List ℕ → ℕ → ℕ → ℕ → Type 0
-Stands l at w n = (readAt l at w ≡ read.Value n) ↔ ((w ≤ 32) × (n < 2 ^ w) × (take w (drop at l) ≡ bitsIn w n))
+Stands l at w n = (readAt l at w ≡ good n) ↔ ((n < 2 ^ w) × (take w (drop at l) ≡ bitsIn w n))
 
 pub stands : (body : List ℕ) (at w n : ℕ) → Stands (bitsOf body) at w n
 stands body at w n =
@@ -90,23 +86,23 @@ read-written body (f ∷ fs) at vs e =
     let rest = read-written body fs (at + widthOf f) (later .0) (later .1) in
     let s = stands body at (widthOf f) v .0 (value-good _ v (first .1)) in
     subst (λ (l : List ℕ). Fits (f ∷ fs) l × (take (widthOf f + bitCount fs) (drop at (bitsOf body)) ≡ written (f ∷ fs) l)) (good-same (later .2))
-    ((s .1, rest .0), next-bits (bitsOf body) at (widthOf f) (bitCount fs) ∙ rw (s .2, rest .1))
+    ((s .0, rest .0), next-bits (bitsOf body) at (widthOf f) (bitCount fs) ∙ rw (s .1, rest .1))
 
-pub written-read : (body : List ℕ) (fs : List Field) (at : ℕ) (vs : List ℕ) → All (λ (f : Field). widthOf f ≤ 32) fs → Fits fs vs →
+pub written-read : (body : List ℕ) (fs : List Field) (at : ℕ) (vs : List ℕ) → Fits fs vs →
     take (bitCount fs) (drop at (bitsOf body)) ≡ written fs vs → valuesOf fs at (bitsOf body) ≡ good vs
 unfolding Fits written
-written-read body [] at [] n h e = unfold valuesOf in refl
-written-read body [] at (v ∷ vs) n h e = absurd h
-written-read body (f ∷ fs) at [] n h e = absurd h
-written-read body (f ∷ fs) at (v ∷ vs) n h e =
+written-read body [] at [] h e = unfold valuesOf in refl
+written-read body [] at (v ∷ vs) h e = absurd h
+written-read body (f ∷ fs) at [] h e = absurd h
+written-read body (f ∷ fs) at (v ∷ vs) h e =
     let w = widthOf f in
     let x = drop at (bitsOf body) in
     let len = length-in w v in
     let here : take w x ≡ bitsIn w v = sym (take-take w (w + bitCount fs) x (omega arith)) ∙ ap (take w) e ∙ take-at (bitsIn w v) (written fs vs) w len in
     let there : take (bitCount fs) (drop (at + w) (bitsOf body)) ≡ written fs vs =
     ap (take (bitCount fs)) (sym (drop-drop w at (bitsOf body))) ∙ sym (drop-take w (bitCount fs) x) ∙ ap (drop w) e ∙ drop-at (bitsIn w v) (written fs vs) w len in
-    let r = stands body at w v .1 (n .0, h .0, here) in
-    values-first (f ∷ fs) fs f at v (bitsOf body) refl r ∙ ap (λ (r : Result (List ℕ)). r >>= (λ us. good (v ∷ us))) (written-read body fs (at + w) vs (n .1) (h .1) there)
+    let r = stands body at w v .1 (h .0, here) in
+    values-first (f ∷ fs) fs f at v (bitsOf body) refl r ∙ ap (λ (r : Result (List ℕ)). r >>= (λ us. good (v ∷ us))) (written-read body fs (at + w) vs (h .1) there)
 
 pub written-length : (fs : List Field) (vs : List ℕ) → Fits fs vs → length (written fs vs) ≡ bitCount fs
 unfolding Fits written
@@ -242,7 +238,7 @@ if-obeys layout body vs h =
     let len = written-length fs vs (h .fits) in
     let front : take (bitCount fs) (bitsOf body) ≡ written fs vs = ap (take (bitCount fs)) (h .bits) ∙ take-at (written fs vs) _ (bitCount fs) len in
     let end : drop (bitCount fs) (bitsOf body) ≡ 1 ∷ replicate (h .zeros) 0 = ap (drop (bitCount fs)) (h .bits) ∙ drop-at (written fs vs) _ (bitCount fs) len in
-    let values = written-read body fs 0 vs (table layout .narrow) (h .fits) front in
+    let values = written-read body fs 0 vs (h .fits) front in
     let fine = fine-both _ _ (fine-judge fs 0 vs (h .allowed)) (fine-cross layout vs (h .crossed)) in
     reading-long layout body (h .long)
     ∙ ap (λ (r : Result (List ℕ)). r >>= (λ us. judged layout us >> (ended layout body >> good us))) values

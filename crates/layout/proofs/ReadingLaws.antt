@@ -2,20 +2,16 @@
 use Prim.Native.Nat.{ℕ, zero, suc, _+_, _*_, _<_}
 use mathlib.Core.Path.{_≡_, refl, sym, ap, _∙_, subst}
 use mathlib.Core.List.{List, [], _∷_, _++_, append-assoc, append-nil}
-use mathlib.Core.Bool.{cond}
 use native.Mathlib.Numerals.{add-one}
 use lib.ListN.{length, take, drop, set}
 use lib.Seq.{take-suc-set}
-use lib.Dec.{leb}
 use Rattle.bits.specs.Bits.{readOn, readAt}
-use Rattle.bits.specs.declared.Read.{Read}
-use Rattle.bits.specs.declared.Read.the-variants as read
-use Rattle.bits.specs.declared.Read.the-variants.{Value, TooWide}
 use Rattle.bits.proofs.ListLaws.{drop-take}
 use Rattle.answers.proofs.ResultLaws.{not-good, good-same, bind-good}
 use Rattle.layout.specs.Layouts.{widthOf, ruleOf}
 use Rattle.layout.specs.Reader.{Result, _>>_, both, readValue, ruled, valuesOf, judge}
 use Rattle.layout.specs.Inside.{taken, takenFrom}
+use Rattle.answers.specs.Results as results
 use Rattle.answers.specs.Results.{good, bad, _>>=_}
 use Rattle.layout.specs.declared.Field.{Field}
 use Rattle.layout.specs.declared.Fault.the-variants.{Short}
@@ -33,7 +29,7 @@ take-reads acc (suc w) (b ∷ l) = take-reads (acc * 2 + b) w l
 
 pub read-inside : (l : List ℕ) (at w : ℕ) → readAt (take (at + w) l) at w ≡ readAt l at w
 unfolding readAt
-read-inside l at w = ap (λ (r : Read). cond (leb w 32) r TooWide) (ap (readOn 0 w) (drop-take at w l) ∙ take-reads 0 w (drop at l))
+read-inside l at w = ap (readOn 0 w) (drop-take at w l) ∙ take-reads 0 w (drop at l)
 
 -- ── values in order ──
 
@@ -49,32 +45,31 @@ onto-more : (l : List ℕ) (v : ℕ) (r : Result (List ℕ)) → onto l (r >>= (
 onto-more l v (good vs) = ap good (sym (append-assoc l (v ∷ []) vs))
 onto-more l v (bad fault) = refl
 
-pub values-first : (fs gs : List Field) (f : Field) (at v : ℕ) (bits : List ℕ) → fs ≡ f ∷ gs → readAt bits at (widthOf f) ≡ Value v →
+pub values-first : (fs gs : List Field) (f : Field) (at v : ℕ) (bits : List ℕ) → fs ≡ f ∷ gs → readAt bits at (widthOf f) ≡ good v →
     valuesOf fs at bits ≡ (valuesOf gs (at + widthOf f) bits >>= (λ vs. good (v ∷ vs)))
 unfolding valuesOf
 values-first fs gs f at v bits e r =
     ap (λ (l : List Field). valuesOf l at bits) e
-    ∙ ap (λ (x : Read). readValue x >>= (λ u. valuesOf gs (at + widthOf f) bits >>= (λ vs. good (u ∷ vs)))) r
+    ∙ ap (λ (x : results.Result ℕ ℕ). readValue x >>= (λ u. valuesOf gs (at + widthOf f) bits >>= (λ vs. good (u ∷ vs)))) r
 
 -- ── values ──
 
-pub value-good : (x : Read) (v : ℕ) → readValue x ≡ good v → x ≡ read.Value v
-value-good (read.Value n) v e = ap read.Value (good-same e)
-value-good read.Missing v e = not-good e
-value-good read.TooWide v e = not-good e
+pub value-good : (x : results.Result ℕ ℕ) (v : ℕ) → readValue x ≡ good v → x ≡ good v
+value-good (good n) v e = ap good (good-same e)
+value-good (bad m) v e = not-good e
 
 -- ── fields that are read and judged one after another ──
 
 -- a field of which the value is read
-pub taken-value : (f : Field) (at v : ℕ) (bits : List ℕ) → readAt bits at (widthOf f) ≡ Value v →
+pub taken-value : (f : Field) (at v : ℕ) (bits : List ℕ) → readAt bits at (widthOf f) ≡ good v →
     taken f at bits ≡ (ruled (ruleOf f) v at >> good v)
 unfolding taken
-taken-value f at v bits r = ap (λ (x : Read). readValue x >>= (λ u. ruled (ruleOf f) u at >> good u)) r
+taken-value f at v bits r = ap (λ (x : results.Result ℕ ℕ). readValue x >>= (λ u. ruled (ruleOf f) u at >> good u)) r
 
 -- a read that failed
-pub taken-fail : (f : Field) (at : ℕ) (bits : List ℕ) (x : Read) → readAt bits at (widthOf f) ≡ x → readValue x ≡ bad Short → taken f at bits ≡ bad Short
+pub taken-fail : (f : Field) (at m : ℕ) (bits : List ℕ) → readAt bits at (widthOf f) ≡ bad m → taken f at bits ≡ bad Short
 unfolding taken
-taken-fail f at bits x r b = ap (λ (y : Result ℕ). y >>= (λ u. ruled (ruleOf f) u at >> good u)) (ap readValue r ∙ b)
+taken-fail f at m bits r = ap (λ (x : results.Result ℕ ℕ). readValue x >>= (λ u. ruled (ruleOf f) u at >> good u)) r
 
 taken-first : (fs gs : List Field) (f : Field) (at : ℕ) (bits : List ℕ) → fs ≡ f ∷ gs →
     takenFrom fs at bits ≡ (taken f at bits >>= (λ v. takenFrom gs (at + widthOf f) bits >>= (λ vs. good (v ∷ vs))))

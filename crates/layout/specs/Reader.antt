@@ -8,7 +8,6 @@ use lib.Dec.{eqb, leb, ltb}
 use Rattle.answers.specs.Results as results
 use Rattle.answers.specs.Results.{good, bad, _>>=_}
 use Rattle.bits.specs.Bits.{bitsOf, readAt, readOr}
-use Rattle.bits.specs.declared.Read.{Read}
 use Rattle.layout.specs.Layouts.{widthOf, ruleOf, fields, bitCount, leastBytes}
 use Rattle.layout.specs.Values.{Ownership, ownership}
 use Rattle.layout.specs.declared.JudgedField.the-variants.{CopyrightOwner, CopyrightNumber}
@@ -45,9 +44,9 @@ abbrev pub both : Verdict → Verdict → Verdict
 both Fine verdict = verdict
 both (Faulty fault) verdict = Faulty fault
 
--- bits that are not there are SHORT; no field is wider than a read
-abbrev pub readValue : Read → Result ℕ
-readValue r = readOr good (bad Short) r
+-- bits that are not there are SHORT, which is about bytes: it does not say how many
+abbrev pub readValue : results.Result ℕ ℕ → Result ℕ
+readValue r = readOr good (λ _. bad Short) r
 
 -- ── a body ──
 

@@ -320,7 +320,7 @@ enum FieldReading {
 
 // The field that begins at bit `at`; bits that are not there are Short.
 fn read_field(field: Field, body: &[u8], at: usize) -> FieldReading
-    requires { ⌜ at + widthOf field ≤ 112 ⌝ }
+    requires { ⌜ (at + widthOf field ≤ 112) × (widthOf field ≤ 32) ⌝ }
     ensures { λ r. ⌜ fieldSays r ≡ taken field at (bitsOf (now (body .entry))) ⌝ }
 {
     let width = field.1;
@@ -331,8 +331,8 @@ fn read_field(field: Field, body: &[u8], at: usize) -> FieldReading
             Verdict::Fine => FieldReading::Value(value),
             Verdict::Faulty(fault) => FieldReading::Faulty(fault),
         },
-        Read::Missing => FieldReading::Faulty(Fault::Short),
-        Read::TooWide => FieldReading::Faulty(Fault::Short),
+        Read::Missing(_) => FieldReading::Faulty(Fault::Short),
+        Read::TooWide => FieldReading::Faulty(Fault::Short), // never: no field is so wide
     }
 }
 

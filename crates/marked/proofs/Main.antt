@@ -1,22 +1,26 @@
--- The front page: the marks that stand where a refusal has no number and no bin are no answer's number and no answer's bin.
+-- The front page: the marks that stand where a refusal has no number and no bin are no answer's number and no answer's bin; and how many
+-- bits were missing is 0 exactly where the status is not PAYLOAD OUT.
 use Prim.Native.Nat.{ℕ, zero, suc, _+_, _/_, _%_, _≤_, _<_}
-use mathlib.Core.Path.{_≡_, refl, ap, _∙_}
+use mathlib.Core.Path.{_≡_, refl, sym, ap, _∙_}
 use mathlib.Core.Logic.{_≢_}
-use mathlib.Core.List.{List}
+use mathlib.Core.List.{List, [], _∷_}
 use mathlib.Core.Bool.{Bool, true, false, cond}
 use native.Mathlib.Omega.{arith}
 use lib.Dec.{eqb, leb→le}
 use lib.IntN.{ℤ, pos, negsuc, negℤ}
-use Rattle.answers.specs.Answers.{Outcome, done, refused, mapDone}
+use Rattle.answers.specs.Answers.{Carried, Outcome, done, refused, mapDone, PAYLOAD-OUT}
+use Rattle.answers.specs.Answers as answers
+use Rattle.answers.specs.Missing.{SaysMissing, says-done, says-none, says-out, missingIn}
 use Rattle.answers.proofs.OutcomeLaws.{map-done}
 use Rattle.payload.specs.Golomb.{Numbered, standsFor, withSign}
 use Rattle.payload.specs.Reader.{golomb, signedGolomb}
 use Rattle.payload.proofs.GolombLaws.{golomb-bound}
-use Rattle.aec.specs.Bins.{bypassOf, stuffingOf, decodeOf, decodePairOf}
+use Rattle.payload.proofs.Main as payload
+use Rattle.aec.specs.Bins.{startOf, bypassOf, stuffingOf, decodeOf, decodePairOf}
 use Rattle.aec.specs.declared.State.{State}
 use Rattle.contexts.specs.declared.Context.{Context}
 use Rattle.aec.proofs.Main as aec
-use Rattle.marked.specs.Payloads.{noNumber, noSignedNumber, noBin}
+use Rattle.marked.specs.Payloads.{noNumber, noSignedNumber, noBin, ToldMissing, numberAnswer, signedAnswer, begunAnswer, plainAnswer, binAnswer, pairAnswer}
 
 pub number-marked : (bytes : List ℕ) (bits place : ℕ) (m : Numbered ℕ) → golomb bytes bits place ≡ done m → m .number ≢ noNumber
 number-marked bytes bits place m e z = let h = golomb-bound bytes bits place m e in omega arith
@@ -66,3 +70,35 @@ decode-marked bytes bits x c bin y d e z = let h = aec.decode-good bytes bits x 
 pub decode-pair-marked : (bytes : List ℕ) (bits : ℕ) (x : State) (a b : Context) (bin : ℕ) (y : State) (c d : Context)
     → decodePairOf bytes bits x a b ≡ done (bin, y, c, d) → bin ≢ noBin
 decode-pair-marked bytes bits x a b bin y c d e z = let h = aec.decode-pair-good bytes bits x a b bin y c d e .0 .binary in omega arith
+
+-- ── how many bits were missing ──
+
+-- of an answer that hands the refusal's number and count over
+module _ {A R : Type 0} (answer : Outcome A → R) (status missing : R → ℕ) (of-done : (a : A) → (status (answer (done a)) ≡ 0) × (missing (answer (done a)) ≡ 0))
+    (of-refused : (n : ℕ) (carried : List Carried) → (status (answer (refused n carried)) ≡ n) × (missing (answer (refused n carried)) ≡ missingIn carried)) where
+  told : {o : Outcome A} → SaysMissing o → ToldMissing (status (answer o)) (missing (answer o))
+  told (says-done a) = let (s, m) = of-done a in (λ _ e. omega arith, λ _. m)
+  told (says-none n h) = let (s, m) = of-refused n [] in (λ _ e. h (sym s ∙ e), λ _. m)
+  told (says-out k h) = let (s, m) = of-refused PAYLOAD-OUT (answers.missing k ∷ []) in (λ z e. omega arith, λ h. absurd (h s))
+
+module _ (bytes : List ℕ) (bits : ℕ) where
+  pub number-told : (place : ℕ) → let r = numberAnswer place (golomb bytes bits place) in ToldMissing (r .status) (r .missing)
+  number-told place = told (numberAnswer place) (λ r. r .status) (λ r. r .missing) (λ a. (refl, refl)) (λ n c. (refl, refl)) (payload.golomb-missing bytes bits place)
+
+  pub signed-told : (place : ℕ) → let r = signedAnswer place (signedGolomb bytes bits place) in ToldMissing (r .status) (r .missing)
+  signed-told place = told (signedAnswer place) (λ r. r .status) (λ r. r .missing) (λ a. (refl, refl)) (λ n c. (refl, refl)) (payload.signed-missing bytes bits place)
+
+  pub begun-told : (x : State) → let r = begunAnswer x (startOf bytes bits) in ToldMissing (r .status) (r .missing)
+  begun-told x = told (begunAnswer x) (λ r. r .status) (λ r. r .missing) (λ a. (refl, refl)) (λ n c. (refl, refl)) (aec.start-missing bytes bits)
+
+  pub bypass-told : (x : State) → let r = plainAnswer x (bypassOf bytes bits x) in ToldMissing (r .status) (r .missing)
+  bypass-told x = told (plainAnswer x) (λ r. r .status) (λ r. r .missing) (λ a. (refl, refl)) (λ n c. (refl, refl)) (aec.bypass-missing bytes bits x)
+
+  pub stuffing-told : (x : State) → let r = plainAnswer x (stuffingOf bytes bits x) in ToldMissing (r .status) (r .missing)
+  stuffing-told x = told (plainAnswer x) (λ r. r .status) (λ r. r .missing) (λ a. (refl, refl)) (λ n c. (refl, refl)) (aec.stuffing-missing bytes bits x)
+
+  pub decode-told : (x : State) (c : Context) → let r = binAnswer x c (decodeOf bytes bits x c) in ToldMissing (r .status) (r .missing)
+  decode-told x c = told (binAnswer x c) (λ r. r .status) (λ r. r .missing) (λ a. (refl, refl)) (λ n c. (refl, refl)) (aec.decode-missing bytes bits x c)
+
+  pub decode-pair-told : (x : State) (a b : Context) → let r = pairAnswer x a b (decodePairOf bytes bits x a b) in ToldMissing (r .status) (r .missing)
+  decode-pair-told x a b = told (pairAnswer x a b) (λ r. r .status) (λ r. r .missing) (λ a. (refl, refl)) (λ n c. (refl, refl)) (aec.decode-pair-missing bytes bits x a b)

@@ -1,5 +1,5 @@
 // Exp-Golomb numbers and bins by value. A refusal gives back the place, the state and the contexts that were asked with, and has a
-// mark that is no number and no bin in place of what it has none of.
+// mark that is no number and no bin in place of what it has none of. Beside the status is how many bits were missing, for PAYLOAD OUT.
 use aec::Decoded;
 use aec::DecodedPair;
 use aec::Started;
@@ -9,17 +9,17 @@ use contexts::Context;
 use payload::Golomb;
 use payload::SignedGolomb;
 ghost use mathlib.Core.Path.{_≡_};
-ghost use mathlib.Core.List.{[]};
-ghost use Rattle.answers.specs.Answers.{refused};
+ghost use Rattle.answers.specs.Missing.{missingIn};
 ghost use Rattle.payload.specs.Reader.{golomb, signedGolomb};
 ghost use Rattle.aec.specs.Bins.{startOf, bypassOf, stuffingOf, decodeOf, decodePairOf};
-ghost use Rattle.aec.specs.Says.{refusalNumber, steppedSays};
-ghost use Rattle.marked.specs.Payloads.{numberAnswer, signedAnswer, begunAnswer, plainAnswer, binAnswer, pairAnswer};
+ghost use Rattle.aec.specs.Says.{refusalNumber, refusalCarries, steppedSays};
+ghost use Rattle.marked.specs.Payloads.{noNumber, noSignedNumber, numberAnswer, signedAnswer, begunAnswer, plainAnswer, binAnswer, pairAnswer};
 
 // An Exp-Golomb number with the place after it.
 #[repr(C)]
 pub struct Number {
     pub status: u32,
+    pub missing: u32,
     pub number: u32,
     pub place: usize,
 }
@@ -27,6 +27,7 @@ pub struct Number {
 #[repr(C)]
 pub struct SignedNumber {
     pub status: u32,
+    pub missing: u32,
     pub number: i32,
     pub place: usize,
 }
@@ -34,6 +35,7 @@ pub struct SignedNumber {
 #[repr(C)]
 pub struct Begun {
     pub status: u32,
+    pub missing: u32,
     pub state: State,
 }
 
@@ -41,6 +43,7 @@ pub struct Begun {
 #[repr(C)]
 pub struct PlainBin {
     pub status: u32,
+    pub missing: u32,
     pub bin: u32,
     pub state: State,
 }
@@ -48,6 +51,7 @@ pub struct PlainBin {
 #[repr(C)]
 pub struct Bin {
     pub status: u32,
+    pub missing: u32,
     pub bin: u32,
     pub state: State,
     pub context: Context,
@@ -56,6 +60,7 @@ pub struct Bin {
 #[repr(C)]
 pub struct PairBin {
     pub status: u32,
+    pub missing: u32,
     pub bin: u32,
     pub state: State,
     pub first: Context,
@@ -71,21 +76,23 @@ const NO_BIN: u32 = 2;
 
 // ── Exp-Golomb numbers ──
 
-fn no_number(status: u32, place: usize) -> Number
-    ensures { λ r. ⌜ r ≡ numberAnswer place (refused status []) ⌝ }
+fn no_number(status: u32, missing: u32, place: usize) -> Number
+    ensures { λ r. ⌜ r ≡ record { status = status; missing = missing; number = noNumber; place = place } ⌝ }
 {
     Number {
         status: status,
+        missing: missing,
         number: NO_NUMBER,
         place: place,
     }
 }
 
-fn no_signed_number(status: u32, place: usize) -> SignedNumber
-    ensures { λ r. ⌜ r ≡ signedAnswer place (refused status []) ⌝ }
+fn no_signed_number(status: u32, missing: u32, place: usize) -> SignedNumber
+    ensures { λ r. ⌜ r ≡ record { status = status; missing = missing; number = noSignedNumber; place = place } ⌝ }
 {
     SignedNumber {
         status: status,
+        missing: missing,
         number: NO_SIGNED_NUMBER,
         place: place,
     }
@@ -98,12 +105,13 @@ pub fn unsigned_golomb(bytes: &[u8], bits: usize, place: usize) -> Number
     match payload::unsigned_golomb(bytes, bits, place) {
         Golomb::Number(n, next) => Number {
             status: 0,
+            missing: 0,
             number: n,
             place: next,
         },
-        Golomb::Value => no_number(8, place),
-        Golomb::TooLong => no_number(13, place),
-        Golomb::PayloadOut => no_number(14, place),
+        Golomb::Value => no_number(8, 0, place),
+        Golomb::TooLong => no_number(13, 0, place),
+        Golomb::PayloadOut(missing) => no_number(14, missing, place),
     }
 }
 
@@ -114,12 +122,13 @@ pub fn signed_golomb(bytes: &[u8], bits: usize, place: usize) -> SignedNumber
     match payload::signed_golomb(bytes, bits, place) {
         SignedGolomb::Number(n, next) => SignedNumber {
             status: 0,
+            missing: 0,
             number: n,
             place: next,
         },
-        SignedGolomb::Value => no_signed_number(8, place),
-        SignedGolomb::TooLong => no_signed_number(13, place),
-        SignedGolomb::PayloadOut => no_signed_number(14, place),
+        SignedGolomb::Value => no_signed_number(8, 0, place),
+        SignedGolomb::TooLong => no_signed_number(13, 0, place),
+        SignedGolomb::PayloadOut(missing) => no_signed_number(14, missing, place),
     }
 }
 
@@ -131,7 +140,17 @@ fn bin_number(why: aec::Refusal) -> u32
     match why {
         aec::Refusal::TooLong => 13,
         aec::Refusal::BadState => 15,
-        aec::Refusal::PayloadOut => 14,
+        aec::Refusal::PayloadOut(_) => 14,
+    }
+}
+
+fn bits_missing(why: aec::Refusal) -> u32
+    ensures { λ r. ⌜ r ≡ missingIn (refusalCarries why) ⌝ }
+{
+    match why {
+        aec::Refusal::TooLong => 0,
+        aec::Refusal::BadState => 0,
+        aec::Refusal::PayloadOut(missing) => missing,
     }
 }
 
@@ -142,10 +161,12 @@ pub fn start(bytes: &[u8], bits: usize, state: State) -> Begun
     match aec::start(bytes, bits) {
         Started::Done(next) => Begun {
             status: 0,
+            missing: 0,
             state: next,
         },
         Started::Refused(why) => Begun {
             status: bin_number(why),
+            missing: bits_missing(why),
             state: state,
         },
     }
@@ -158,12 +179,14 @@ pub fn decode(bytes: &[u8], bits: usize, state: State, context: Context) -> Bin
     match aec::decode(bytes, bits, state, context) {
         Decoded::Done(bin, next, updated) => Bin {
             status: 0,
+            missing: 0,
             bin: bin,
             state: next,
             context: updated,
         },
         Decoded::Refused(why) => Bin {
             status: bin_number(why),
+            missing: bits_missing(why),
             bin: NO_BIN,
             state: state,
             context: context,
@@ -184,6 +207,7 @@ pub fn decode_pair(
     match aec::decode_pair(bytes, bits, state, first, second) {
         DecodedPair::Done(bin, next, a, b) => PairBin {
             status: 0,
+            missing: 0,
             bin: bin,
             state: next,
             first: a,
@@ -191,6 +215,7 @@ pub fn decode_pair(
         },
         DecodedPair::Refused(why) => PairBin {
             status: bin_number(why),
+            missing: bits_missing(why),
             bin: NO_BIN,
             state: state,
             first: first,
@@ -205,11 +230,13 @@ fn plain_bin(answer: Stepped, state: State) -> PlainBin
     match answer {
         Stepped::Done(bin, next) => PlainBin {
             status: 0,
+            missing: 0,
             bin: bin,
             state: next,
         },
         Stepped::Refused(why) => PlainBin {
             status: bin_number(why),
+            missing: bits_missing(why),
             bin: NO_BIN,
             state: state,
         },

@@ -8,10 +8,10 @@ use lib.Dec.{eqb, ltb}
 use lib.ListN.{length, drop, length-drop}
 use lib.Pow.{pow-mono, pow-pos}
 use borrow.Author.Tests.{eq-eqb, ne-eqb, eqb-true, eqb-false, lt-ltb, le-ltb}
-use Rattle.answers.specs.Answers.{Outcome, done, refused, refuseIf, TOO-LONG, PAYLOAD-OUT}
+use Rattle.answers.specs.Answers.{Outcome, done, refused, refuseIf, TOO-LONG}
 use Rattle.answers.specs.Limits.{longestPayload}
+use Rattle.answers.specs.Results.{good}
 use Rattle.bits.specs.Bits.{payload, readAt}
-use Rattle.bits.specs.declared.Read.the-variants as read
 use Rattle.bits.proofs.TestLaws.{by-test}
 use Rattle.answers.proofs.OutcomeLaws.{not-done}
 use Rattle.bits.proofs.BitLaws.{length-payload}
@@ -101,15 +101,15 @@ module _ (bytes : List ℕ) (count place : ℕ) where
       (b .0, omega (arith, b .1, b .2))
 
   -- the value of z bits has z bits
-  pub suffix-lt : (z next b : ℕ) → readAt (payload bytes count) next z ≡ read.Value b → b < 2 ^ z
-  suffix-lt z next b e = read-exactly bytes count next z b .0 e .1
+  pub suffix-lt : (z next b : ℕ) → readAt (payload bytes count) next z ≡ good b → b < 2 ^ z
+  suffix-lt z next b e = read-exactly bytes count next z b .0 e .0
 
-  pub number-lt : (z next b : ℕ) → z ≤ 31 → readAt (payload bytes count) next z ≡ read.Value b → 2 ^ z - 1 + b < 4294967295
+  pub number-lt : (z next b : ℕ) → z ≤ 31 → readAt (payload bytes count) next z ≡ good b → 2 ^ z - 1 + b < 4294967295
   number-lt z next b h e = let s = suffix-lt z next b e in omega (arith, pow-mono {i = z} {j = 31} h, pow-pos z)
 
   after-bound : (zs : Zeros) (m : Numbered ℕ) → zerosOn 0 place (drop place (payload bytes count)) ≡ zs → golombAfter (payload bytes count) zs ≡ done m → m .number < 4294967295
   after-bound (Before z next) m e q =
-      let (b, is, f) = found-value _ PAYLOAD-OUT [] (readAt (payload bytes count) next z) m q in
+      let (b, is, f) = found-value _ _ (readAt (payload bytes count) next z) m (λ n e. not-done e) q in
       let n : 2 ^ z - 1 + b ≡ m .number = number-of f in
       let k = number-lt z next b (zeros-bounds z next e .0) is in
       omega arith

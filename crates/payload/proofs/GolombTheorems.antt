@@ -1,5 +1,5 @@
 -- How the bits from a place on begin decides the answer of Exp-Golomb reading, and they begin in one of three ways.
-use Prim.Native.Nat.{ℕ, zero, suc, _+_, _-_, _*_, _^_, _≤_, _<_}
+use Prim.Native.Nat.{ℕ, zero, suc, _+_, _-_, _^_, _≤_, _<_}
 use mathlib.Core.Path.{_≡_, refl, sym, ap, _∙_, subst}
 use mathlib.Core.Logic.{_⊎_, inl, inr, _↔_}
 use mathlib.Core.List.{List, [], _∷_, _++_, append-nil, append-assoc}
@@ -9,18 +9,17 @@ use borrow.Author.Tests.{ne-eqb, leb-true, leb-false, ltb-true, ltb-false}
 use lib.Dec.{leb, ltb}
 use lib.ListN.{length, take, drop, replicate, replicate-append-replicate, take-append-drop, length-drop}
 use lib.Seq.{drop-drop, take-append-seam}
-use Rattle.answers.specs.Answers.{Outcome, done, refused, mapDone, VALUE, TOO-LONG, PAYLOAD-OUT}
+use Rattle.answers.specs.Answers.{Outcome, done, refused, mapDone, VALUE, TOO-LONG}
 use Rattle.answers.specs.Limits.{longestPayload}
+use Rattle.answers.specs.Missing.{payloadOut, SaysMissing, says-done, says-none, says-out}
+use Rattle.answers.specs.Results.{Result, good, bad}
 use Rattle.bits.specs.Bits.{bitsIn, payload, readAt}
-use Rattle.bits.specs.Lists.{All}
-use Rattle.bits.specs.declared.Read.{Read}
-use Rattle.bits.specs.declared.Read.the-variants as read
 use Rattle.bits.proofs.ListLaws.{all-drop}
 use Rattle.bits.proofs.TestLaws.{by-test}
-use Rattle.answers.proofs.OutcomeLaws.{not-done, done-one, other-number}
-use Rattle.bits.proofs.BitLaws.{Binary, all-payload, length-in, never-wide}
+use Rattle.answers.proofs.OutcomeLaws.{not-done, done-one, other-number, out-same, says-mapped}
+use Rattle.bits.proofs.BitLaws.{Binary, all-payload, length-in, leading}
 use Rattle.bits.proofs.Main.{read-exactly, missing-exactly}
-use Rattle.payload.specs.Golomb.{Numbered, withSign, Coded, TooManyZeros, EndsFirst}
+use Rattle.payload.specs.Golomb.{Numbered, withSign, Coded, TooManyZeros, EndsFirst, before-one, after-one}
 use Rattle.payload.specs.Reader.{zerosOn, numberOf, golombAfter, golomb, signedGolomb}
 use Rattle.payload.specs.declared.Zeros.the-variants.{Before, TooMany, Missing}
 use Rattle.payload.proofs.GolombLaws.{golomb-long, golomb-after}
@@ -55,21 +54,9 @@ unfolding zerosOn
 zeros-many at l = refl
 
 -- what is after the 1
-after-one : (z : ℕ) (l : List ℕ) → drop (z + 1) (replicate z 0 ++ (1 ∷ l)) ≡ l
-after-one zero l = refl
-after-one (suc z) l = rw add-one (rw add-one at (after-one z l))
-
--- every list of bits begins with zeros, and then a 1 or its end
-leading : (l : List ℕ) → All Binary l → (n : ℕ) × ((l ≡ replicate n 0) ⊎ ((rest : List ℕ) × (l ≡ replicate n 0 ++ (1 ∷ rest))))
-leading [] h = (0, inl refl)
-leading (zero ∷ l) h = more (leading l (h .1))
-  where
-    more : (n : ℕ) × ((l ≡ replicate n 0) ⊎ ((rest : List ℕ) × (l ≡ replicate n 0 ++ (1 ∷ rest)))) →
-        (n : ℕ) × ((0 ∷ l ≡ replicate n 0) ⊎ ((rest : List ℕ) × (0 ∷ l ≡ replicate n 0 ++ (1 ∷ rest))))
-    more (n, inl e) = (suc n, inl (ap (λ m. 0 ∷ m) e))
-    more (n, inr (rest, e)) = (suc n, inr (rest, ap (λ m. 0 ∷ m) e))
-leading (suc zero ∷ l) h = (0, inr (l, refl))
-leading (suc (suc b) ∷ l) h = let k = h .0 in absurd (omega arith)
+rest-after : (z : ℕ) (l : List ℕ) → drop (z + 1) (replicate z 0 ++ (1 ∷ l)) ≡ l
+rest-after zero l = refl
+rest-after (suc z) l = rw add-one (rw add-one at (rest-after z l))
 
 thirty-two : (n : ℕ) → 31 < n → replicate {A = ℕ} n 0 ≡ replicate 32 0 ++ replicate (n - 32) 0
 thirty-two n h =
@@ -88,7 +75,7 @@ module _ (bytes : List ℕ) (count place : ℕ) where
   after-code : (z : ℕ) (l : List ℕ) → drop place bits ≡ replicate z 0 ++ (1 ∷ l) → drop (place + z + 1) bits ≡ l
   after-code z l e =
       let p : place + z + 1 ≡ place + (z + 1) = omega arith in
-      ap (λ (k : ℕ). drop k bits) p ∙ sym (drop-drop (z + 1) place bits) ∙ ap (drop (z + 1)) e ∙ after-one z l
+      ap (λ (k : ℕ). drop k bits) p ∙ sym (drop-drop (z + 1) place bits) ∙ ap (drop (z + 1)) e ∙ rest-after z l
 
   coded-answers : (m : Numbered ℕ) → Coded bits place m → answer ≡ done m
   coded-answers m c =
@@ -96,67 +83,61 @@ module _ (bytes : List ℕ) (count place : ℕ) where
       let b = c .b in
       let d = after-code z (bitsIn z b ++ c .rest) (c .there) in
       let t = ap (take z) d ∙ ap (λ (k : ℕ). take k (bitsIn z b ++ c .rest)) (sym (length-in z b)) ∙ take-append-seam (bitsIn z b) (c .rest) in
-      let few = c .few in
-      let r = read-exactly bytes count (place + z + 1) z b .1 (omega arith, c .small, t) in
+      let r = read-exactly bytes count (place + z + 1) z b .1 (c .small, t) in
       ap (λ t. golombAfter bits (zerosOn 0 place t)) (c .there)
-      ∙ ap (golombAfter bits) (zeros-before z place (bitsIn z b ++ c .rest) few)
+      ∙ ap (golombAfter bits) (zeros-before z place (bitsIn z b ++ c .rest) (c .few))
       ∙ ap (numberOf z (place + z + 1)) r
       ∙ sym (ap done (c .is))
 
   many-answers : TooManyZeros bits place → answer ≡ refused VALUE []
   many-answers c = ap (λ t. golombAfter bits (zerosOn 0 place t)) (c .there) ∙ ap (golombAfter bits) (zeros-many place (c .rest))
 
-  ends-answers : EndsFirst bits place → answer ≡ refused PAYLOAD-OUT []
-  ends-answers c = ended (c .there)
-    where
-      ended : (drop place bits ≡ replicate (c .z) 0) ⊎ ((rest : List ℕ) × (drop place bits ≡ replicate (c .z) 0 ++ (1 ∷ rest)) × (length rest < c .z)) → answer ≡ refused PAYLOAD-OUT []
-      ended (inl e) =
-          ap (λ t. golombAfter bits (zerosOn 0 place t)) (e ∙ sym (append-nil (replicate (c .z) 0))) ∙ ap (golombAfter bits) (zeros-missing (c .z) place (c .few))
-      ended (inr (rest, e, h)) =
-          let d = ap length (after-code (c .z) rest e) in
-          let l = length-drop (place + c .z + 1) bits in
-          let few = c .few in
-          ap (λ t. golombAfter bits (zerosOn 0 place t)) e
-          ∙ ap (golombAfter bits) (zeros-before (c .z) place rest few)
-          ∙ ap (numberOf (c .z) (place + c .z + 1)) (missing-exactly bits (place + c .z + 1) (c .z) .1 (omega arith, omega arith))
+  ends-answers : {m : ℕ} → EndsFirst bits place m → answer ≡ payloadOut m
+  ends-answers (before-one z few e) =
+      ap (λ t. golombAfter bits (zerosOn 0 place t)) (e ∙ sym (append-nil (replicate z 0))) ∙ ap (golombAfter bits) (zeros-missing z place few)
+  ends-answers (after-one z rest few e h) =
+      let d = ap length (after-code z rest e) in
+      let l = length-drop (place + z + 1) bits in
+      ap (λ t. golombAfter bits (zerosOn 0 place t)) e
+      ∙ ap (golombAfter bits) (zeros-before z place rest few)
+      ∙ ap (numberOf z (place + z + 1)) (missing-exactly bits (place + z + 1) z (z - length rest) .1 (omega arith, omega arith))
 
   -- ── they begin in one of these ways ──
 
   abbrev Begins : Type 0
-  Begins = ((m : Numbered ℕ) × Coded bits place m) ⊎ (TooManyZeros bits place ⊎ EndsFirst bits place)
+  Begins = ((m : Numbered ℕ) × Coded bits place m) ⊎ (TooManyZeros bits place ⊎ ((m : ℕ) × EndsFirst bits place m))
 
   -- the z bits after the 1 are there, and have a value
-  suffix : (z : ℕ) (rest : List ℕ) → z ≤ 31 → drop place bits ≡ replicate z 0 ++ (1 ∷ rest) → z ≤ length rest → (r : Read) → readAt bits (place + z + 1) z ≡ r → (m : Numbered ℕ) × Coded bits place m
-  suffix z rest h e k (read.Value b) q =
+  suffix : (z : ℕ) (rest : List ℕ) → z ≤ 31 → drop place bits ≡ replicate z 0 ++ (1 ∷ rest) → z ≤ length rest → (r : Result ℕ ℕ) → readAt bits (place + z + 1) z ≡ r → (m : Numbered ℕ) × Coded bits place m
+  suffix z rest h e k (good b) q =
       let x = read-exactly bytes count (place + z + 1) z b .0 q in
       let d = after-code z rest e in
-      let t = ap (take z) (sym d) ∙ x .2 in (
+      let t = ap (take z) (sym d) ∙ x .1 in (
         record { number = 2 ^ z - 1 + b; next = place + z + 1 + z },
         record {
           z = z;
           b = b;
           rest = drop z rest;
           few = h;
-          small = x .1;
+          small = x .0;
           there = e ∙ ap (λ l. replicate z 0 ++ (1 ∷ l)) (sym (take-append-drop z rest) ∙ ap (λ l. l ++ drop z rest) t);
           is = refl;
         },
       )
-  suffix z rest h e k read.Missing q =
-      let x = missing-exactly bits (place + z + 1) z .0 q .1 in
+  suffix z rest h e k (bad m) q =
+      let x = missing-exactly bits (place + z + 1) z m .0 q .0 in
       let d = ap length (after-code z rest e) in
       let l = length-drop (place + z + 1) bits in
       absurd (omega arith)
-  suffix z rest h e k read.TooWide q = absurd (never-wide bits (place + z + 1) z (omega arith) q)
 
   begins-from : (n : ℕ) → (drop place bits ≡ replicate n 0) ⊎ ((rest : List ℕ) × (drop place bits ≡ replicate n 0 ++ (1 ∷ rest))) → Begins
   begins-from n (inl e) =
-      by-test (leb n 31) (λ t. inr (inr (record { z = n; few = leb-true _ _ t; there = inl e })))
+      by-test (leb n 31) (λ t. inr (inr (1, before-one n (leb-true _ _ t) e)))
       (λ f. inr (inl (record { rest = replicate (n - 32) 0; there = e ∙ thirty-two n (leb-false _ _ f) })))
   begins-from n (inr (rest, e)) =
       by-test (leb n 31)
       (λ t.
-      by-test (ltb (length rest) n) (λ u. inr (inr (record { z = n; few = leb-true _ _ t; there = inr (rest, e, ltb-true _ _ u) })))
+      by-test (ltb (length rest) n) (λ u. inr (inr (n - length rest, after-one n rest (leb-true _ _ t) e (ltb-true _ _ u))))
       (λ g. inl (suffix n rest (leb-true _ _ t) e (ltb-false _ _ g) (readAt bits (place + n + 1) n) refl)))
       (λ f.
       inr (inl (record {
@@ -184,7 +165,7 @@ module _ (bytes : List ℕ) (count place : ℕ) where
       coded : length bytes ≤ longestPayload → answer ≡ done m → Begins → Coded bits place m
       coded h q (inl (n, c)) = subst (Coded bits place) (done-one (sym (coded-answers n c) ∙ q)) c
       coded h q (inr (inl c)) = not-done (sym (many-answers c) ∙ q)
-      coded h q (inr (inr c)) = not-done (sym (ends-answers c) ∙ q)
+      coded h q (inr (inr (n, c))) = not-done (sym (ends-answers c) ∙ q)
 
   pub value-iff : (golomb bytes count place ≡ refused VALUE []) ↔ ((length bytes ≤ longestPayload) × TooManyZeros bits place)
   value-iff = (λ e. by-limit (refused VALUE []) e (λ q. other-number q (λ z. omega arith)) (λ h q. (h, many h q begins)), λ c. within (c .0) ∙ many-answers (c .1))
@@ -192,15 +173,15 @@ module _ (bytes : List ℕ) (count place : ℕ) where
       many : length bytes ≤ longestPayload → answer ≡ refused VALUE [] → Begins → TooManyZeros bits place
       many h q (inl (n, c)) = not-done (sym q ∙ coded-answers n c)
       many h q (inr (inl c)) = c
-      many h q (inr (inr c)) = other-number (sym (ends-answers c) ∙ q) (λ z. omega arith)
+      many h q (inr (inr (n, c))) = other-number (sym (ends-answers c) ∙ q) (λ z. omega arith)
 
-  pub out-iff : (golomb bytes count place ≡ refused PAYLOAD-OUT []) ↔ ((length bytes ≤ longestPayload) × EndsFirst bits place)
-  out-iff = (λ e. by-limit (refused PAYLOAD-OUT []) e (λ q. other-number q (λ z. omega arith)) (λ h q. (h, ends h q begins)), λ c. within (c .0) ∙ ends-answers (c .1))
+  pub out-iff : (m : ℕ) → (golomb bytes count place ≡ payloadOut m) ↔ ((length bytes ≤ longestPayload) × EndsFirst bits place m)
+  out-iff m = (λ e. by-limit (payloadOut m) e (λ q. other-number q (λ z. omega arith)) (λ h q. (h, ends q begins)), λ c. within (c .0) ∙ ends-answers (c .1))
     where
-      ends : length bytes ≤ longestPayload → answer ≡ refused PAYLOAD-OUT [] → Begins → EndsFirst bits place
-      ends h q (inl (n, c)) = not-done (sym q ∙ coded-answers n c)
-      ends h q (inr (inl c)) = other-number (sym (many-answers c) ∙ q) (λ z. omega arith)
-      ends h q (inr (inr c)) = c
+      ends : answer ≡ payloadOut m → Begins → EndsFirst bits place m
+      ends q (inl (n, c)) = not-done (sym q ∙ coded-answers n c)
+      ends q (inr (inl c)) = other-number (sym (many-answers c) ∙ q) (λ z. omega arith)
+      ends q (inr (inr (n, c))) = subst (EndsFirst bits place) (out-same (sym (ends-answers c) ∙ q)) c
 
   pub long-iff : (golomb bytes count place ≡ refused TOO-LONG []) ↔ (longestPayload < length bytes)
   long-iff = (
@@ -211,10 +192,33 @@ module _ (bytes : List ℕ) (count place : ℕ) where
       never : answer ≡ refused TOO-LONG [] → Begins → ⊥
       never q (inl (n, c)) = not-done (sym q ∙ coded-answers n c)
       never q (inr (inl c)) = other-number (sym (many-answers c) ∙ q) (λ z. omega arith)
-      never q (inr (inr c)) = other-number (sym (ends-answers c) ∙ q) (λ z. omega arith)
+      never q (inr (inr (n, c))) = other-number (sym (ends-answers c) ∙ q) (λ z. omega arith)
+
+  -- ── how many bits are missing ──
+
+  ends-range : {m : ℕ} → EndsFirst bits place m → (1 ≤ m) × (m ≤ 31)
+  ends-range (before-one z few e) = (omega arith, omega arith)
+  ends-range (after-one z rest few e h) = (omega arith, omega arith)
+
+  pub out-range : (m : ℕ) → golomb bytes count place ≡ payloadOut m → (1 ≤ m) × (m ≤ 31)
+  out-range m e = ends-range (out-iff m .0 e .1)
+
+  pub golomb-missing : SaysMissing (golomb bytes count place)
+  golomb-missing =
+      by-test (leb (length bytes) longestPayload) (λ t. subst SaysMissing (sym (within (leb-true _ _ t))) (said begins))
+      (λ f. subst SaysMissing (golomb-long bytes count place (leb-false _ _ f)) (says-none TOO-LONG (λ z. omega arith)))
+    where
+      said : Begins → SaysMissing answer
+      said (inl (n, c)) = subst SaysMissing (sym (coded-answers n c)) (says-done n)
+      said (inr (inl c)) = subst SaysMissing (sym (many-answers c)) (says-none VALUE (λ z. omega arith))
+      said (inr (inr (m, c))) = subst SaysMissing (sym (ends-answers c)) (says-out m (ends-range c .0))
 
   -- ── signed ──
 
   pub signed-is : signedGolomb bytes count place ≡ mapDone withSign (golomb bytes count place)
   unfolding signedGolomb
   signed-is = refl
+
+  pub signed-missing : SaysMissing (signedGolomb bytes count place)
+  unfolding signedGolomb
+  signed-missing = says-mapped withSign golomb-missing

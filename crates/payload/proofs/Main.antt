@@ -4,8 +4,9 @@ use mathlib.Core.Path.{_≡_}
 use mathlib.Core.Logic.{_↔_}
 use mathlib.Core.List.{List, []}
 use lib.ListN.{length}
-use Rattle.answers.specs.Answers.{done, refused, mapDone, VALUE, TOO-LONG, PAYLOAD-OUT, OneToOne}
+use Rattle.answers.specs.Answers.{done, refused, mapDone, VALUE, TOO-LONG, OneToOne}
 use Rattle.answers.specs.Limits.{longestPayload}
+use Rattle.answers.specs.Missing.{payloadOut, SaysMissing}
 use Rattle.bits.specs.Bits.{payload}
 use Rattle.payload.specs.Escape.{unescaped, removal, outputAfter, removedSays}
 use Rattle.payload.specs.Golomb.{Numbered, withSign, Coded, TooManyZeros, EndsFirst, golombSays, signedSays}
@@ -27,12 +28,23 @@ pub golomb-value-iff : (bytes : List ℕ) (count place : ℕ) →
     (golomb bytes count place ≡ refused VALUE []) ↔ ((length bytes ≤ longestPayload) × TooManyZeros (payload bytes count) place)
 golomb-value-iff = exactly.value-iff
 
-pub golomb-out-iff : (bytes : List ℕ) (count place : ℕ) →
-    (golomb bytes count place ≡ refused PAYLOAD-OUT []) ↔ ((length bytes ≤ longestPayload) × EndsFirst (payload bytes count) place)
+-- with m, how many bits are missing
+pub golomb-out-iff : (bytes : List ℕ) (count place m : ℕ) →
+    (golomb bytes count place ≡ payloadOut m) ↔ ((length bytes ≤ longestPayload) × EndsFirst (payload bytes count) place m)
 golomb-out-iff = exactly.out-iff
 
 pub golomb-long-iff : (bytes : List ℕ) (count place : ℕ) → (golomb bytes count place ≡ refused TOO-LONG []) ↔ (longestPayload < length bytes)
 golomb-long-iff = exactly.long-iff
+
+-- 1 to 31 are missing, and PAYLOAD OUT carries nothing else; no other refusal carries anything.
+pub golomb-out-range : (bytes : List ℕ) (count place m : ℕ) → golomb bytes count place ≡ payloadOut m → (1 ≤ m) × (m ≤ 31)
+golomb-out-range = exactly.out-range
+
+pub golomb-missing : (bytes : List ℕ) (count place : ℕ) → SaysMissing (golomb bytes count place)
+golomb-missing = exactly.golomb-missing
+
+pub signed-missing : (bytes : List ℕ) (count place : ℕ) → SaysMissing (signedGolomb bytes count place)
+signed-missing = exactly.signed-missing
 
 -- The signed answer is the unsigned one, with what its number stands for.
 pub signed-is : (bytes : List ℕ) (count place : ℕ) → signedGolomb bytes count place ≡ mapDone withSign (golomb bytes count place)

@@ -7,6 +7,7 @@ use lib.Dec.{eqb, ltb}
 use lib.IntN.{ℤ}
 use lib.ListN.{length, drop}
 use Rattle.answers.specs.Answers.{Outcome, done, refused, VALUE, FULL, TOO-LONG, OneToOne}
+use Rattle.answers.specs.Missing.{missingIn}
 use Rattle.answers.specs.Limits.{longestPayload}
 use Rattle.bits.specs.Bits.{bitsIn, payload, pack}
 use Rattle.bits.specs.Lists.{All}
@@ -67,9 +68,9 @@ pub removed-one-to-one : OneToOne removedSays
 removed-one-to-one = undone removedSays removedOf removed-undone
 
 -- the answer of an Exp-Golomb number, by what it says
-abbrev answerOf : {A B : Type 0} → (A → ℕ → B) → B → B → B → Outcome (Numbered A) → B
+abbrev answerOf : {A B : Type 0} → (A → ℕ → B) → B → B → (ℕ → B) → Outcome (Numbered A) → B
 answerOf number value long out (done m) = number (m .number) (m .next)
-answerOf number value long out (refused n carried) = cond (eqb n VALUE) value (cond (eqb n TOO-LONG) long out)
+answerOf number value long out (refused n carried) = cond (eqb n VALUE) value (cond (eqb n TOO-LONG) long (out (missingIn carried)))
 
 pub golomb-one-to-one : OneToOne golombSays
 golomb-one-to-one = undone golombSays back is
@@ -81,7 +82,7 @@ golomb-one-to-one = undone golombSays back is
     is (unsigned.Number n next) = refl
     is unsigned.Value = refl
     is unsigned.TooLong = refl
-    is unsigned.PayloadOut = refl
+    is (unsigned.PayloadOut m) = refl
 
 pub signed-one-to-one : OneToOne signedSays
 signed-one-to-one = undone signedSays back is
@@ -93,4 +94,4 @@ signed-one-to-one = undone signedSays back is
     is (signed.Number n next) = refl
     is signed.Value = refl
     is signed.TooLong = refl
-    is signed.PayloadOut = refl
+    is (signed.PayloadOut m) = refl

@@ -1,13 +1,13 @@
 -- Exp-Golomb numbers: "z zeros, a 1, then z bits of value b; number = 2^z - 1 + b, answered with the place after it".
 use Prim.Native.Nat.{ℕ, _+_, _-_, _/_, _%_, _^_, _≤_, _<_}
 use mathlib.Core.Path.{_≡_}
-use mathlib.Core.Logic.{_⊎_}
 use mathlib.Core.List.{List, [], _∷_, _++_}
 use mathlib.Core.Bool.{cond}
 use lib.Dec.{eqb}
 use lib.IntN.{ℤ, pos, negℤ}
 use lib.ListN.{length, drop, replicate}
-use Rattle.answers.specs.Answers.{Outcome, done, refused, VALUE, TOO-LONG, PAYLOAD-OUT}
+use Rattle.answers.specs.Answers.{Outcome, done, refused, VALUE, TOO-LONG}
+use Rattle.answers.specs.Missing.{payloadOut}
 use Rattle.bits.specs.Bits.{bitsIn}
 use Rattle.payload.specs.declared.Golomb.{Golomb}
 use Rattle.payload.specs.declared.Golomb.the-variants as unsigned
@@ -36,11 +36,11 @@ pub record TooManyZeros (bits : List ℕ) (place : ℕ) : Type 0 where
   pub rest : List ℕ
   pub there : drop place bits ≡ replicate 32 0 ++ rest
 
--- they end before the 1, or before the z bits after it
-pub record EndsFirst (bits : List ℕ) (place : ℕ) : Type 0 where
-  pub z : ℕ
-  pub few : z ≤ 31
-  pub there : (drop place bits ≡ replicate z 0) ⊎ ((rest : List ℕ) × (drop place bits ≡ replicate z 0 ++ (1 ∷ rest)) × (length rest < z))
+-- They end before the 1, and so many are missing: zeros and the 1 are read bit by bit, so one is. Or before the z bits after it, which
+-- are one read: z less what is left.
+pub data EndsFirst (bits : List ℕ) (place : ℕ) : ℕ → Type 0 where
+  before-one : (z : ℕ) → z ≤ 31 → drop place bits ≡ replicate z 0 → EndsFirst bits place 1
+  after-one : (z : ℕ) (rest : List ℕ) → z ≤ 31 → drop place bits ≡ replicate z 0 ++ (1 ∷ rest) → length rest < z → EndsFirst bits place (z - length rest)
 
 -- ── signed numbers ──
 
@@ -57,10 +57,10 @@ abbrev pub golombSays : Golomb → Outcome (Numbered ℕ)
 golombSays (unsigned.Number n next) = done (record { number = n; next = next })
 golombSays unsigned.Value = refused VALUE []
 golombSays unsigned.TooLong = refused TOO-LONG []
-golombSays unsigned.PayloadOut = refused PAYLOAD-OUT []
+golombSays (unsigned.PayloadOut m) = payloadOut m
 
 abbrev pub signedSays : SignedGolomb → Outcome (Numbered ℤ)
 signedSays (signed.Number n next) = done (record { number = n; next = next })
 signedSays signed.Value = refused VALUE []
 signedSays signed.TooLong = refused TOO-LONG []
-signedSays signed.PayloadOut = refused PAYLOAD-OUT []
+signedSays (signed.PayloadOut m) = payloadOut m

@@ -156,19 +156,19 @@ pub fn remove_escapes(raw: &[u8], out: &mut [u8]) -> Removed
 
 // ── Exp-Golomb numbers ──
 
-// A number and the place after it.
+// A number and the place after it; PayloadOut with how many bits were missing.
 pub enum Golomb {
     Number(u32, usize),
     Value,
     TooLong,
-    PayloadOut,
+    PayloadOut(u32),
 }
 
 pub enum SignedGolomb {
     Number(i32, usize),
     Value,
     TooLong,
-    PayloadOut,
+    PayloadOut(u32),
 }
 
 // Zeros before a 1, with the place after that 1.
@@ -214,11 +214,11 @@ pub fn unsigned_golomb(bytes: &[u8], count: usize, place: usize) -> Golomb
                 let one: u32 = 1;
                 Golomb::Number((one << z) - 1 + b, at + z as usize)
             }
-            Read::Missing => Golomb::PayloadOut,
-            Read::TooWide => Golomb::PayloadOut,
+            Read::Missing(missing) => Golomb::PayloadOut(missing),
+            Read::TooWide => Golomb::Value, // never: at most 31 zeros stand before the 1
         },
         Zeros::TooMany => Golomb::Value,
-        Zeros::Missing => Golomb::PayloadOut,
+        Zeros::Missing => Golomb::PayloadOut(1),
     }
 }
 
@@ -242,6 +242,6 @@ pub fn signed_golomb(bytes: &[u8], count: usize, place: usize) -> SignedGolomb
         Golomb::Number(n, next) => SignedGolomb::Number(stands_for(n), next),
         Golomb::Value => SignedGolomb::Value,
         Golomb::TooLong => SignedGolomb::TooLong,
-        Golomb::PayloadOut => SignedGolomb::PayloadOut,
+        Golomb::PayloadOut(missing) => SignedGolomb::PayloadOut(missing),
     }
 }

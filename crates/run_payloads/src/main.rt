@@ -1,5 +1,5 @@
-// Document 01's examples 8 to 12, asked of the Rattle functions: a line each. A refusal is its number.
-// tests/payloads_oracle.py has the answers as document 01 gives them.
+// Document 01's examples 8 to 12, asked of the Rattle functions: a line each. A refusal is its number, PAYLOAD OUT with how many bits
+// are missing. tests/payloads_oracle.py has the answers as document 01 gives them.
 use aec::Decoded;
 use aec::Started;
 use aec::State;
@@ -69,12 +69,17 @@ fn example_escape() {
     end();
 }
 
+fn out(missing: u32) {
+    number(14);
+    small(missing);
+}
+
 fn unsigned(g: Golomb) {
     match g {
         Golomb::Number(n, _) => small(n),
         Golomb::Value => number(8),
         Golomb::TooLong => number(13),
-        Golomb::PayloadOut => number(14),
+        Golomb::PayloadOut(missing) => out(missing),
     }
 }
 
@@ -83,7 +88,7 @@ fn with_sign(g: SignedGolomb) {
         SignedGolomb::Number(n, _) => signed(n),
         SignedGolomb::Value => number(8),
         SignedGolomb::TooLong => number(13),
-        SignedGolomb::PayloadOut => number(14),
+        SignedGolomb::PayloadOut(missing) => out(missing),
     }
 }
 
@@ -121,7 +126,7 @@ fn bins(bytes: &[u8], x: State, n: u32) {
                 k += 1;
             }
             Decoded::Refused(why) => {
-                number(refusal(why));
+                refusal(why);
                 return;
             }
         }
@@ -129,11 +134,11 @@ fn bins(bytes: &[u8], x: State, n: u32) {
     state(y, c);
 }
 
-fn refusal(why: aec::Refusal) -> u64 {
+fn refusal(why: aec::Refusal) {
     match why {
-        aec::Refusal::TooLong => 13,
-        aec::Refusal::PayloadOut => 14,
-        aec::Refusal::BadState => 15,
+        aec::Refusal::TooLong => number(13),
+        aec::Refusal::PayloadOut(missing) => out(missing),
+        aec::Refusal::BadState => number(15),
     }
 }
 
@@ -141,7 +146,7 @@ fn example_bins(n: u32, bytes: &[u8], count: u32) {
     example(n);
     match aec::start(bytes, 24) {
         Started::Done(x) => bins(bytes, x, count),
-        Started::Refused(why) => number(refusal(why)),
+        Started::Refused(why) => refusal(why),
     }
     end();
 }

@@ -58,7 +58,10 @@ fn bit(b: Bit) {
 fn value(r: Read) {
     match r {
         Read::Value(v) => small(v),
-        Read::Missing => none(),
+        Read::Missing(count) => {
+            say(b" missing");
+            small(count);
+        }
         Read::TooWide => say(b" wide"),
     }
 }
@@ -96,15 +99,19 @@ fn reads() {
     read(7, 56, 55, 1);
     read(7, 56, 56, 0);
     read(7, 56, 56, 1);
+    read(7, 56, 56, 32);
     read(7, 56, 99, 0);
+    read(7, 56, 99, 9);
     read(7, 17, 16, 1);
     read(7, 17, 16, 2);
+    read(7, 17, 0, 32);
     read(7, 0, 0, 1);
     read(2, 99, 0, 16);
     read(2, 99, 0, 17);
     read(0, 8, 0, 0);
     read(0, 8, 0, 1);
     read(7, 18446744073709551615, 18446744073709551615, 1);
+    read(7, 18446744073709551615, 30, 32);
 }
 
 // ── prefixes ──

@@ -4,7 +4,7 @@ use mathlib.Core.Path.{_≡_}
 use mathlib.Core.Logic.{_≢_}
 use mathlib.Core.List.{List, [], _∷_}
 use mathlib.Core.Option.{Option, none, some}
-use Rattle.answers.specs.Answers.{Carried, at-offset, at-bit, Outcome, done, refused, mapDone}
+use Rattle.answers.specs.Answers.{Carried, at-offset, at-bit, missing, Outcome, done, refused, mapDone}
 use Rattle.startcode.specs.declared.Kind.{Kind}
 use Rattle.startcode.specs.declared.Kind.the-variants.{Slice, SequenceHeader, SequenceEnd, UserData, IPicture, Extension, PBPicture, EditCode}
 use Rattle.grammar.specs.Rows.{Row}
@@ -20,6 +20,7 @@ abbrev pub offsetIn : List Carried → ℕ
 offsetIn [] = 0
 offsetIn (at-offset n ∷ more) = n
 offsetIn (at-bit n ∷ more) = offsetIn more
+offsetIn (missing n ∷ more) = offsetIn more
 
 -- in place of a bit, where there is none: no bit of a body is so great (BitMarked)
 abbrev pub noBit : ℕ
@@ -30,6 +31,7 @@ abbrev pub bitIn : List Carried → ℕ
 bitIn [] = noBit
 bitIn (at-offset n ∷ more) = bitIn more
 bitIn (at-bit n ∷ more) = n
+bitIn (missing n ∷ more) = bitIn more
 
 -- A status is the papers' number; a refusal hands nothing over.
 abbrev pub counted : Outcome ℕ → Answer

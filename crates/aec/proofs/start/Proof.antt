@@ -1,10 +1,14 @@
 -- The first nine bits, and then the state that they settle to.
+use Prim.Native.Nat.{ℕ}
 use mathlib.Core.Path.{_≡_, sym, ap, _∙_}
+use mathlib.Core.List.{List}
 use native.Mathlib.Omega.{arith}
 use Rattle.answers.specs.Answers.{Outcome}
-use Rattle.bits.specs.Bits.{payload, readOr}
-use Rattle.bits.specs.declared.Read.{Read}
-use Rattle.aec.specs.Bins.{noBit, settleOf, startOf}
+use Rattle.answers.specs.Missing.{payloadOut}
+use Rattle.answers.specs.Results.{Result}
+use Rattle.bits.specs.Bits.{payload, readAt, readOr}
+use Rattle.bits.proofs.BitLaws.{within-value, within-missing, never-wide}
+use Rattle.aec.specs.Bins.{settleOf, startOf}
 use Rattle.aec.specs.declared.State.{State}
 use Rattle.aec.proofs.StepLaws.{limit-passed, limit-kept, nine-bits}
 use borrow.Author.Needs.{needs}
@@ -25,35 +29,44 @@ settle-requires : tie.Need-settle-requires
 settle-requires c κs =
     let r = c .before .before .before in
     let a = r .before .before .before .args in
-    let n = nine-bits (a .bytes .now) (a .count) _ (sym (r .read-bits .ensures) ∙ c .before .value .given .1) in
+    let n = nine-bits (a .bytes .now) (a .count) _ (within-value _ 0 9 (omega arith) _ (sym (r .read-bits .ensures) ∙ c .before .value .given .1)) in
     (r .before .if1 .left, n .0, omega arith)
+
+enum-known-missing : tie.Need-enum-known-missing
+enum-known-missing c = search needs
 
 enum-told : tie.Need-enum-told
 enum-told c = search needs
 
-enum-told-2 : tie.Need-enum-told-2
-enum-told-2 c = search needs
-
 -- the answer goes by the read
-abbrev by-read : (c : tie.After-read-bits) → Read → Outcome State
-by-read c = let a = c .before .before .before .args in readOr (λ vt. settleOf (payload (a .bytes .now) (a .count)) 255 vt 9) noBit
+module _ (c : tie.After-read-bits) where
+  abbrev entry : tie.Start
+  entry = c .before .before .before
 
-answer : (c : tie.After-read-bits) →
-    let a = c .before .before .before .args in
-    by-read c (c .read-bits .result) ≡ startOf (a .bytes .now) (a .count)
-unfolding startOf
-answer c = ap (by-read c) (c .read-bits .ensures) ∙ limit-kept _ _ (c .before .if1 .left)
+  abbrev bits : List ℕ
+  bits = payload (entry .args .bytes .now) (entry .args .count)
+
+  abbrev by-read : Result ℕ ℕ → Outcome State
+  by-read = readOr (λ vt. settleOf bits 255 vt 9) payloadOut
+
+  answer : by-read (readAt bits 0 9) ≡ startOf (entry .args .bytes .now) (entry .args .count)
+  unfolding startOf
+  answer = limit-kept _ _ (c .before .if1 .left)
 
 returns-2 : tie.Need-returns-2
 returns-2 c =
     let r = c .before .before .before .before in
-    c .settle .ensures ∙ ap (by-read r) (sym (c .before .before .value .given .1)) ∙ answer r
+    let v = within-value (bits r) 0 9 (omega arith) _ (sym (r .read-bits .ensures) ∙ c .before .before .value .given .1) in
+    c .settle .ensures ∙ ap (by-read r) (sym v) ∙ answer r
 
 returns-3 : tie.Need-returns-3
-returns-3 c = let r = c .before .before in ap (by-read r) (sym (c .enum-told .given .1)) ∙ answer r
+returns-3 c =
+    let r = c .before .before .before in
+    let m = within-missing (bits r) 0 9 (omega arith) _ (sym (r .read-bits .ensures) ∙ c .before .missing .given .1) in
+    ap (by-read r) (sym m) ∙ answer r
 
 returns-4 : tie.Need-returns-4
-returns-4 c = let r = c .before .before in ap (by-read r) (sym (c .enum-told2 .given .1)) ∙ answer r
+returns-4 c = let r = c .before .before in never-wide (bits r) 0 9 (omega arith) (sym (r .read-bits .ensures) ∙ c .enum-told .given .1)
 
 pub start-spec : {M : Type 1} → statement M
 start-spec =
@@ -63,8 +76,8 @@ start-spec =
     read-bits-requires
     enum-known-value
     settle-requires
+    enum-known-missing
     enum-told
-    enum-told-2
     returns-2
     returns-3
     returns-4)

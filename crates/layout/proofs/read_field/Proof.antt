@@ -1,9 +1,11 @@
 -- The bits that are read are the field's, and its rule judges their value.
-use Prim.Native.Nat.{ℕ, _+_}
-use mathlib.Core.Path.{_≡_, refl, sym, ap, _∙_}
+use Prim.Native.Nat.{ℕ, _+_, _≤_}
+use mathlib.Core.Path.{_≡_, sym, ap, _∙_}
+use mathlib.Core.List.{List}
 use Rattle.answers.specs.Results.{good}
-use Rattle.bits.specs.Bits.{bitsOf, payload, readAt}
+use Rattle.bits.specs.Bits.{bitsOf, payload, readAt, readWithin}
 use Rattle.bits.specs.declared.Read.{Read}
+use Rattle.bits.proofs.BitLaws.{within-value, within-missing, never-wide}
 use Rattle.layout.specs.Layouts.{widthOf, ruleOf}
 use Rattle.layout.specs.Reader.{_>>_, ruled}
 use Rattle.layout.specs.Inside.{taken}
@@ -17,11 +19,21 @@ module _ (c : tie.After-read-bits) where
   abbrev entry : tie.Start
   entry = c .before .before .before
 
-  read-is : (x : Read) → c .read-bits .result ≡ x → readAt (bitsOf (entry .args .body .now)) (entry .args .at) (widthOf (entry .args .field)) ≡ x
-  read-is x e =
-      let a = entry .args in
-      let w = widthOf (a .field) in
-      sym (c .read-bits .ensures ∙ ap (λ (n : ℕ). readAt (payload (a .body .now) (a .at + n)) (a .at) w) (c .before .wide .ensures) ∙ read-inside (bitsOf (a .body .now)) (a .at) w) ∙ e
+  abbrev width : ℕ
+  width = widthOf (entry .args .field)
+
+  -- the bits before the field's end
+  abbrev before : List ℕ
+  before = payload (entry .args .body .now) (entry .args .at + width)
+
+  narrow : width ≤ 32
+  narrow = entry .pre .1
+
+  read-is : (x : Read) → c .read-bits .result ≡ x → readWithin before (entry .args .at) width ≡ x
+  read-is x e = let a = entry .args in sym (c .read-bits .ensures ∙ ap (λ (n : ℕ). readWithin (payload (a .body .now) (a .at + n)) (a .at) width) (c .before .wide .ensures)) ∙ e
+
+  inside : readAt before (entry .args .at) width ≡ readAt (bitsOf (entry .args .body .now)) (entry .args .at) width
+  inside = read-inside (bitsOf (entry .args .body .now)) (entry .args .at) width
 
 -- a value that is read, and what is found of it
 judged : (c : tie.After-ruled-on) (w : Verdict) → c .ruled-on .result ≡ w →
@@ -32,7 +44,7 @@ judged c w e =
     let a = entry r .args in
     let g = c .before .before .value .given in
     let first : c .ruled-on .result ≡ ruled (ruleOf (a .field)) (g .0 .0) (a .at) = c .ruled-on .ensures in
-    taken-value (a .field) (a .at) _ (bitsOf (a .body .now)) (read-is r _ (g .1)) ∙ ap (λ (x : Verdict). x >> good (g .0 .0)) (sym first ∙ e)
+    taken-value (a .field) (a .at) _ (bitsOf (a .body .now)) (sym (inside r) ∙ within-value (before r) (a .at) (width r) (narrow r) _ (read-is r _ (g .1))) ∙ ap (λ (x : Verdict). x >> good (g .0 .0)) (sym first ∙ e)
 
 wide-requires : tie.Need-wide-requires
 wide-requires c κs = search needs
@@ -68,10 +80,14 @@ returns-2 : tie.Need-returns-2
 returns-2 c = sym (judged (c .before .before .before) _ (c .before .fault .given .1))
 
 returns-3 : tie.Need-returns-3
-returns-3 c = let r = c .before .before in let a = entry r .args in sym (taken-fail (a .field) (a .at) (bitsOf (a .body .now)) _ (read-is r _ (c .enum-told2 .given .1)) refl)
+returns-3 c =
+    let r = c .before .before in
+    let a = entry r .args in
+    let m = within-missing (before r) (a .at) (width r) (narrow r) _ (read-is r _ (c .enum-told2 .given .1)) in
+    sym (taken-fail (a .field) (a .at) _ (bitsOf (a .body .now)) (sym (inside r) ∙ m))
 
 returns-4 : tie.Need-returns-4
-returns-4 c = let r = c .before .before in let a = entry r .args in sym (taken-fail (a .field) (a .at) (bitsOf (a .body .now)) _ (read-is r _ (c .enum-told3 .given .1)) refl)
+returns-4 c = let r = c .before .before in never-wide (before r) (entry r .args .at) (width r) (narrow r) (read-is r _ (c .enum-told3 .given .1))
 
 pub read-field-spec : {M : Type 1} → statement M
 read-field-spec =

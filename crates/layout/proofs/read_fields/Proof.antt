@@ -1,10 +1,12 @@
 -- The values that are taken, and those that are still to be taken, are the body's.
 use Prim.Native.Nat.{ℕ, _+_, _-_, _≤_}
-use mathlib.Core.Path.{_≡_, refl, sym, ap, _∙_}
+use mathlib.Core.Path.{_≡_, refl, sym, ap, subst, _∙_}
 use mathlib.Core.List.{List}
 use native.Mathlib.Omega.{arith}
 use lib.ListN.{length, take, drop, set, length-set, drop-of-length-le}
 use Rattle.bits.specs.Bits.{bitsOf}
+use Rattle.bits.specs.Lists.{All}
+use Rattle.bits.proofs.ListLaws.{all-drop}
 use Rattle.layout.specs.Layouts.{widthOf, fields, bitCount}
 use Rattle.layout.specs.Inside.{fieldSays, taken, takenFrom}
 use Rattle.layout.specs.declared.Field.{Field}
@@ -42,6 +44,11 @@ module _ (c : tie.After-field-at Inv-loop μ-loop) where
   counted : bitCount (drop (point .loop .i) fs) ≡ widthOf field + bitCount (drop (point .loop .i + 1) fs)
   counted = rest-count (drop (point .loop .i) fs) (drop (point .loop .i + 1) fs) field (c .field-at .ensures)
 
+  narrow : widthOf field ≤ 32
+  narrow =
+      let all = all-drop (λ (f : Field). widthOf f ≤ 32) (point .loop .i) fs ((table (entry .args .layout)) .narrow) in
+      subst (All (λ (f : Field). widthOf f ≤ 32)) (c .field-at .ensures) all .0
+
 -- what a turn took
 took : (c : tie.After-read-field Inv-loop μ-loop) (x : FieldReading) → c .read-field .result ≡ x → taken (field (c .before)) (point (c .before) .loop .at) (bits (c .before)) ≡ fieldSays x
 took c x e = sym (c .read-field .ensures) ∙ ap fieldSays e
@@ -56,7 +63,7 @@ field-at-requires : tie.Need-field-at-requires Inv-loop μ-loop
 field-at-requires c κs = search needs
 
 read-field-requires : tie.Need-read-field-requires Inv-loop μ-loop
-read-field-requires c κs = omega (arith, counted c, (table (entry c .args .layout)) .small, point c .loop .inv .1)
+read-field-requires c κs = (omega (arith, counted c, (table (entry c .args .layout)) .small, point c .loop .inv .1), narrow c)
 
 enum-known-value : tie.Need-enum-known-value Inv-loop μ-loop
 enum-known-value c = search needs

@@ -1,6 +1,6 @@
 -- The bin with what follows it, or what was asked with.
 use Prim.Native.Nat.{ℕ}
-use mathlib.Core.Path.{refl, ap}
+use mathlib.Core.Path.{refl}
 use borrow.Author.Needs.{needs}
 use Rattle.aec.specs.Says.{decodedPairSays}
 use Rattle.marked.specs.declared.PairBin.{PairBin}
@@ -18,11 +18,12 @@ returns c =
 
 returns-2 : tie.Need-returns-2
 returns-2 c =
-    let g = c .before .before in
+    let b = c .before in
+    let g = b .before .before in
     let k = g .before .before in
     let a = k .before .before .args in
-    let refusal : ℕ → PairBin = λ n. record { status = n; bin = noBin; state = a .state; first = a .first; second = a .second } in
-    arm-answers (pairAnswer (a .state) (a .first) (a .second)) decodedPairSays (g .why .given .1) (k .decode-pair .ensures) (ap refusal (c .bin-number .ensures))
+    let refusal : ℕ → ℕ → PairBin = λ n m. record { status = n; missing = m; bin = noBin; state = a .state; first = a .first; second = a .second } in
+    arm-answers (pairAnswer (a .state) (a .first) (a .second)) decodedPairSays (g .why .given .1) (k .decode-pair .ensures) (λ i. refusal (b .bin-number .ensures i) (c .bits-missing .ensures i))
 
 pub decode-pair-spec : {M : Type 1} → statement M
 decode-pair-spec =
@@ -31,6 +32,7 @@ decode-pair-spec =
     (λ c κs. search needs)
     (λ c. search needs)
     (λ c. search needs)
+    (λ c κs. search needs)
     (λ c κs. search needs)
     returns
     returns-2)

@@ -16,10 +16,11 @@ returns c =
 
 returns-2 : tie.Need-returns-2
 returns-2 c =
-    let g = c .before .before in
+    let b = c .before in
+    let g = b .before .before in
     let a = g .before .before .args in
-    let refusal : ℕ → PlainBin = λ n. record { status = n; bin = noBin; state = a .state } in
-    ap refusal (c .bin-number .ensures) ∙ ap (λ x. plainAnswer (a .state) (steppedSays x)) (sym (g .answer2 .given .1))
+    let refusal : ℕ → ℕ → PlainBin = λ n m. record { status = n; missing = m; bin = noBin; state = a .state } in
+    (λ i. refusal (b .bin-number .ensures i) (c .bits-missing .ensures i)) ∙ ap (λ x. plainAnswer (a .state) (steppedSays x)) (sym (g .answer2 .given .1))
 
 pub plain-bin-spec : {M : Type 1} → statement M
 plain-bin-spec =
@@ -27,6 +28,7 @@ plain-bin-spec =
     (tie.spec
     (λ c. search needs)
     (λ c. search needs)
+    (λ c κs. search needs)
     (λ c κs. search needs)
     returns
     returns-2)

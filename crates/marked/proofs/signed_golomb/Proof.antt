@@ -15,7 +15,7 @@ returns : tie.Need-returns
 returns c =
     let g = c .before in
     let k = g .before .before in
-    let answer : ℤ → SignedNumber = λ n. record { status = 0; number = n; place = g .n .given .0 .1 .0 } in
+    let answer : ℤ → SignedNumber = λ n. record { status = 0; missing = 0; number = n; place = g .n .given .0 .1 .0 } in
     arm-answers (signedAnswer (k .before .before .args .place)) signedSays (g .n .given .1) (k .signed-golomb .ensures) (ap answer (toZ-ofZ {w = w32} {z = g .n .given .0 .0} (sfits-of (c .known-told .given .0 .1))))
 
 returns-2 : tie.Need-returns-2
@@ -32,9 +32,9 @@ returns-3 c =
 
 returns-4 : tie.Need-returns-4
 returns-4 c =
-    let t = c .before in
-    let k = t .before .before in
-    arm-answers (signedAnswer (k .before .before .args .place)) signedSays (t .enum-told3 .given .1) (k .signed-golomb .ensures) (c .no-signed-number3 .ensures)
+    let g = c .before .before in
+    let k = g .before .before in
+    arm-answers (signedAnswer (k .before .before .args .place)) signedSays (g .missing .given .1) (k .signed-golomb .ensures) (c .no-signed-number3 .ensures)
 
 pub signed-golomb-spec : {M : Type 1} → statement M
 signed-golomb-spec =

@@ -27,9 +27,9 @@ returns-3 c =
 
 returns-4 : tie.Need-returns-4
 returns-4 c =
-    let t = c .before in
-    let k = t .before .before in
-    arm-answers (numberAnswer (k .before .before .args .place)) golombSays (t .enum-told3 .given .1) (k .unsigned-golomb .ensures) (c .no-number3 .ensures)
+    let g = c .before .before in
+    let k = g .before .before in
+    arm-answers (numberAnswer (k .before .before .args .place)) golombSays (g .missing .given .1) (k .unsigned-golomb .ensures) (c .no-number3 .ensures)
 
 pub unsigned-golomb-spec : {M : Type 1} → statement M
 unsigned-golomb-spec =

@@ -32,8 +32,8 @@ enum-told c = search needs
 enum-told-2 : tie.Need-enum-told-2
 enum-told-2 c = search needs
 
-enum-told-3 : tie.Need-enum-told-3
-enum-told-3 c = search needs
+enum-known-missing : tie.Need-enum-known-missing
+enum-known-missing c = search needs
 
 -- the unsigned answer decides the signed one
 signed : (r : tie.After-unsigned-golomb) →
@@ -58,7 +58,7 @@ returns-3 : tie.Need-returns-3
 returns-3 c = ap (λ y. mapDone withSign (golombSays y)) (sym (c .enum-told2 .given .1)) ∙ signed (c .before .before)
 
 returns-4 : tie.Need-returns-4
-returns-4 c = ap (λ y. mapDone withSign (golombSays y)) (sym (c .enum-told3 .given .1)) ∙ signed (c .before .before)
+returns-4 c = ap (λ y. mapDone withSign (golombSays y)) (sym (c .before .missing .given .1)) ∙ signed (c .before .before .before)
 
 pub signed-golomb-spec : {M : Type 1} → statement M
 signed-golomb-spec =
@@ -69,7 +69,7 @@ signed-golomb-spec =
     stands-for-requires
     enum-told
     enum-told-2
-    enum-told-3
+    enum-known-missing
     returns
     returns-2
     returns-3

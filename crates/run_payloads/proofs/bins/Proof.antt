@@ -40,9 +40,6 @@ enum-known-why c = search needs
 refusal-requires : tie.Need-refusal-requires Inv-loop μ-loop
 refusal-requires c κs = search needs
 
-number-requires : tie.Need-number-requires Inv-loop μ-loop
-number-requires c κs = search needs
-
 returns : tie.Need-returns Inv-loop μ-loop
 returns c = search needs
 
@@ -68,7 +65,6 @@ bins-spec =
     loop-again
     enum-known-why
     refusal-requires
-    number-requires
     returns
     state-requires
     returns-2)
