@@ -23,7 +23,7 @@ extern "C" {
 #endif
 
 /* The number of this interface, raised when it changes: compare it with what avsplus_version answers. */
-#define AVSPLUS_VERSION 2u
+#define AVSPLUS_VERSION 3u
 
 /* A status: 0, or the number of a refusal: docs/RULES.md, "Refusal numbers". From 20 on each is a field's whose value is ruled
  * out; AVSPLUS_VALUE is an Exp-Golomb number's alone. */
@@ -224,20 +224,26 @@ avsplus_answer avsplus_remove_escapes(const uint8_t *raw, size_t length, uint8_t
 #define AVSPLUS_NO_NUMBER UINT32_MAX       /* is no Exp-Golomb number */
 #define AVSPLUS_NO_SIGNED_NUMBER INT32_MIN /* is no signed one */
 
+/* Here and below `missing` is 0 unless status is AVSPLUS_PAYLOAD_OUT; then how many more bits were wanted than there are, at
+ * least 1: by the one read that failed, which takes none of its bits. What would be read after it is not counted. A place past
+ * the payload's end counts as its end. */
 typedef struct {
     uint32_t status;
-    uint32_t number; /* AVSPLUS_NO_NUMBER for a refusal */
-    size_t place;    /* the place after the number; for a refusal the place that was asked for */
+    uint32_t missing; /* 1 to 31 with AVSPLUS_PAYLOAD_OUT, else 0 */
+    uint32_t number;  /* AVSPLUS_NO_NUMBER for a refusal */
+    size_t place;     /* the place after the number; for a refusal the place that was asked for */
 } avsplus_golomb;
 
 typedef struct {
     uint32_t status;
-    int32_t number; /* AVSPLUS_NO_SIGNED_NUMBER for a refusal */
-    size_t place;   /* the place after the number; for a refusal the place that was asked for */
+    uint32_t missing; /* 1 to 31 with AVSPLUS_PAYLOAD_OUT, else 0 */
+    int32_t number;   /* AVSPLUS_NO_SIGNED_NUMBER for a refusal */
+    size_t place;     /* the place after the number; for a refusal the place that was asked for */
 } avsplus_signed_number;
 
 /* The Exp-Golomb number at a bit place of a payload. Here and below a payload is the first `bits` bits of bytes, or all where
- * there are fewer. Refused with TOO LONG, then with VALUE or PAYLOAD OUT, whichever the bits meet first. */
+ * there are fewer. Refused with TOO LONG, then with VALUE or PAYLOAD OUT, whichever the bits meet first. The zeros and the 1
+ * are read bit by bit, so that 1 is missing where they are cut; the bits after the 1, as many as the zeros, are one read. */
 avsplus_golomb avsplus_unsigned_golomb(const uint8_t *bytes, size_t length, size_t bits, size_t place);
 
 /* The same as a signed number. */
@@ -263,18 +269,22 @@ typedef struct {
 
 typedef struct {
     uint32_t status;
+    uint32_t missing;    /* 1 to 9 with AVSPLUS_PAYLOAD_OUT, else 0 */
     avsplus_state state; /* for a refusal the state that was given */
 } avsplus_started;
 
-/* State and contexts are those after the bin; for a refusal those that were given, and bin is AVSPLUS_NO_BIN. */
+/* State and contexts are those after the bin; for a refusal those that were given, and bin is AVSPLUS_NO_BIN. missing is 1 with
+ * AVSPLUS_PAYLOAD_OUT, else 0: a bin's bits are read one by one. */
 typedef struct {
     uint32_t status;
+    uint32_t missing;
     uint32_t bin;
     avsplus_state state;
 } avsplus_plain_bin;
 
 typedef struct {
     uint32_t status;
+    uint32_t missing;
     uint32_t bin;
     avsplus_state state;
     avsplus_context context;
@@ -282,6 +292,7 @@ typedef struct {
 
 typedef struct {
     uint32_t status;
+    uint32_t missing;
     uint32_t bin;
     avsplus_state state;
     avsplus_context first;
@@ -291,7 +302,8 @@ typedef struct {
 /* A fresh context. */
 avsplus_context avsplus_fresh_context(void);
 
-/* Starts on a payload. Refused with TOO LONG or PAYLOAD OUT; the state that was given comes back then. */
+/* Starts on a payload. Refused with TOO LONG or PAYLOAD OUT; the state that was given comes back then. The first nine bits are
+ * one read: missing is 9 less the bits of a payload that has fewer. Later ones are read bit by bit, so that 1 is missing. */
 avsplus_started avsplus_start(const uint8_t *bytes, size_t length, size_t bits, avsplus_state state);
 
 /* A bin by one context, with the state and the context after it. Refused, as all bins are, with TOO LONG, then with BAD STATE

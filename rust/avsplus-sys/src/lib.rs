@@ -12,7 +12,7 @@
 #![deny(missing_docs)]
 
 /// The number of this interface, raised when it changes: compare it with what [`avsplus_version`] answers.
-pub const AVSPLUS_VERSION: u32 = 2;
+pub const AVSPLUS_VERSION: u32 = 3;
 
 /// Status: done, or FILED for filing.
 pub const AVSPLUS_DONE: u32 = 0;
@@ -43,7 +43,7 @@ pub const AVSPLUS_UNENDED: u32 = 11;
 pub const AVSPLUS_FULL: u32 = 12;
 /// Status: over the limit.
 pub const AVSPLUS_TOO_LONG: u32 = 13;
-/// Status: a bit is wanted and none is left.
+/// Status: more bits are wanted than the payload holds; `missing` says how many.
 pub const AVSPLUS_PAYLOAD_OUT: u32 = 14;
 /// Status: a bin state or context outside its ranges.
 pub const AVSPLUS_BAD_STATE: u32 = 15;
@@ -245,6 +245,8 @@ pub struct Part {
 pub struct Golomb {
     /// 0, or the number of a refusal.
     pub status: u32,
+    /// How many more bits were wanted than there are, 1 to 31, with [`AVSPLUS_PAYLOAD_OUT`]; 0 with every other status.
+    pub missing: u32,
     /// [`AVSPLUS_NO_NUMBER`] for a refusal.
     pub number: u32,
     /// The place after the number; for a refusal the place that was asked for.
@@ -257,6 +259,8 @@ pub struct Golomb {
 pub struct SignedNumber {
     /// 0, or the number of a refusal.
     pub status: u32,
+    /// How many more bits were wanted than there are, 1 to 31, with [`AVSPLUS_PAYLOAD_OUT`]; 0 with every other status.
+    pub missing: u32,
     /// [`AVSPLUS_NO_SIGNED_NUMBER`] for a refusal.
     pub number: i32,
     /// The place after the number; for a refusal the place that was asked for.
@@ -297,6 +301,8 @@ pub struct Context {
 pub struct Started {
     /// 0, or the number of a refusal.
     pub status: u32,
+    /// How many more bits were wanted than there are, 1 to 9, with [`AVSPLUS_PAYLOAD_OUT`]; 0 with every other status.
+    pub missing: u32,
     /// For a refusal the state that was lent.
     pub state: State,
 }
@@ -307,6 +313,8 @@ pub struct Started {
 pub struct PlainBin {
     /// 0, or the number of a refusal.
     pub status: u32,
+    /// How many more bits were wanted than there are, which is 1, with [`AVSPLUS_PAYLOAD_OUT`]; 0 with every other status.
+    pub missing: u32,
     /// [`AVSPLUS_NO_BIN`] for a refusal.
     pub bin: u32,
     /// The state after the bin; for a refusal the one that was lent.
@@ -319,6 +327,8 @@ pub struct PlainBin {
 pub struct Bin {
     /// 0, or the number of a refusal.
     pub status: u32,
+    /// How many more bits were wanted than there are, which is 1, with [`AVSPLUS_PAYLOAD_OUT`]; 0 with every other status.
+    pub missing: u32,
     /// [`AVSPLUS_NO_BIN`] for a refusal.
     pub bin: u32,
     /// The state after the bin; for a refusal the one that was lent.
@@ -333,6 +343,8 @@ pub struct Bin {
 pub struct PairBin {
     /// 0, or the number of a refusal.
     pub status: u32,
+    /// How many more bits were wanted than there are, which is 1, with [`AVSPLUS_PAYLOAD_OUT`]; 0 with every other status.
+    pub missing: u32,
     /// [`AVSPLUS_NO_BIN`] for a refusal.
     pub bin: u32,
     /// The state after the bin; for a refusal the one that was lent.
@@ -387,7 +399,8 @@ extern "C" {
     pub fn avsplus_remove_escapes(raw: *const u8, length: usize, output: *mut u8, room: usize) -> Answer;
 
     /// The Exp-Golomb number at a bit place of a payload, which is the first `bits` bits of `bytes`, or all where there are
-    /// fewer.
+    /// fewer. Of PAYLOAD OUT 1 bit is missing where the zeros or the 1 are cut, which are read bit by bit; the bits after the
+    /// 1, as many as the zeros, are one read, which takes none of them where it fails. A place past the end counts as the end.
     pub fn avsplus_unsigned_golomb(bytes: *const u8, length: usize, bits: usize, place: usize) -> Golomb;
 
     /// The same as a signed number.
@@ -396,7 +409,8 @@ extern "C" {
     /// A fresh context.
     pub fn avsplus_fresh_context() -> Context;
 
-    /// Starts on a payload. The state that is lent comes back where the payload is refused.
+    /// Starts on a payload. The state that is lent comes back where the payload is refused. The first nine bits are one read:
+    /// of PAYLOAD OUT 9 less the bits of a payload that has fewer are missing. Later ones are read bit by bit, so that 1 is.
     pub fn avsplus_start(bytes: *const u8, length: usize, bits: usize, state: State) -> Started;
 
     /// A bin by one context.
