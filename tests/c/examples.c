@@ -1,6 +1,6 @@
 /* The examples of document 01 through the C header, groups and extensions with each of their counts, macroblock rows
- * progressive and not, every bit that a refusal carries, and null pointers with length 0: each line prints what it is, and exit
- * 1 where one differs. */
+ * progressive and not, every bit that a refusal carries, how many bits are missing of numbers and bins, and null pointers with
+ * length 0: each line prints what it is, and exit 1 where one differs. */
 #include <stdio.h>
 #include <string.h>
 
@@ -255,16 +255,51 @@ static void payloads(void) {
     expect("8: 30 bits, 00 00 03 00", is(a, 0, 0, 30) && memcmp(output, removed, 5) == 0);
     static const uint8_t bits[3] = {0x80, 0x40, 0x60};
     avsplus_golomb n = avsplus_unsigned_golomb(bits, 1, 1, 0);
-    expect("9: bit 1 is 0", n.status == 0 && n.number == 0 && n.place == 1);
+    expect("9: bit 1 is 0", n.status == 0 && n.missing == 0 && n.number == 0 && n.place == 1);
     avsplus_signed_number s = avsplus_signed_golomb(bits + 1, 1, 3, 0);
-    expect("9: bits 010 are 1", s.status == 0 && s.number == 1 && s.place == 3);
+    expect("9: bits 010 are 1", s.status == 0 && s.missing == 0 && s.number == 1 && s.place == 3);
     s = avsplus_signed_golomb(bits + 2, 1, 3, 0);
-    expect("9: bits 011 are -1", s.status == 0 && s.number == -1 && s.place == 3);
-    n = avsplus_unsigned_golomb(bits, 1, 1, 1);
-    expect("no number past the last bit", n.status == 14 && n.number == AVSPLUS_NO_NUMBER && n.place == 1);
-    static const uint8_t zeros[5] = {0};
-    n = avsplus_unsigned_golomb(zeros, 5, 40, 0);
-    expect("VALUE of 32 zeros", n.status == AVSPLUS_VALUE && n.number == AVSPLUS_NO_NUMBER && n.place == 0);
+    expect("9: bits 011 are -1", s.status == 0 && s.missing == 0 && s.number == -1 && s.place == 3);
+}
+
+/* A payload, so many bits of these bytes, and how a number is refused at a place of it: the status, and the bits missing. */
+typedef struct {
+    const char *what;
+    const uint8_t *bytes;
+    size_t length;
+    size_t bits;
+    size_t place;
+    uint32_t status;
+    uint32_t missing;
+} cut_number;
+
+static const uint8_t zeros[5] = {0}, three[1] = {0x20}, seven[1] = {0x10}, greatest[4] = {0, 0, 0, 1};
+static const uint8_t too_long[AVSPLUS_LONGEST_PAYLOAD + 1] = {0};
+
+static const cut_number cut_numbers[] = {
+    {"no number of no bits: 1 missing", NULL, 0, 0, 0, 14, 1},
+    {"none at the end: 1 missing", seven, 1, 8, 8, 14, 1},
+    {"none past the end, which counts as the end: 1 missing", seven, 1, 8, SIZE_MAX, 14, 1},
+    {"zeros and no 1: 1 missing", zeros, 5, 31, 0, 14, 1},
+    {"001 and 1 bit of 2: 1 missing", three, 1, 4, 0, 14, 1},
+    {"001 and no bit of 2: 2 missing", three, 1, 3, 0, 14, 2},
+    {"0001 and no bit of 3: 3 missing", seven, 1, 4, 0, 14, 3},
+    {"000001 and 2 bits of 5, all that the byte holds: 3 missing", (const uint8_t[]){0x04}, 1, 999, 0, 14, 3},
+    {"31 zeros, a 1 and no bit of 31: 31 missing", greatest, 4, 32, 0, 14, 31},
+    {"VALUE of 32 zeros: none missing", zeros, 5, 40, 0, AVSPLUS_VALUE, 0},
+    {"VALUE of 32 zeros that the bits end with: none missing", zeros, 5, 32, 0, AVSPLUS_VALUE, 0},
+    {"TOO LONG: none missing", too_long, sizeof too_long, 1, 1, AVSPLUS_TOO_LONG, 0},
+};
+
+static void missing_of_numbers(void) {
+    for (const cut_number *c = cut_numbers; c < cut_numbers + sizeof cut_numbers / sizeof *cut_numbers; c++) {
+        avsplus_golomb n = avsplus_unsigned_golomb(c->bytes, c->length, c->bits, c->place);
+        avsplus_signed_number s = avsplus_signed_golomb(c->bytes, c->length, c->bits, c->place);
+        expect(c->what, n.status == c->status && n.missing == c->missing && n.number == AVSPLUS_NO_NUMBER && n.place == c->place &&
+                            s.status == c->status && s.missing == c->missing && s.number == AVSPLUS_NO_SIGNED_NUMBER && s.place == c->place);
+    }
+    avsplus_golomb n = avsplus_unsigned_golomb(three, 1, 5, 0);
+    expect("00100 is 3: none missing", n.status == 0 && n.missing == 0 && n.number == 3 && n.place == 5);
 }
 
 static void bins(void) {
@@ -272,7 +307,7 @@ static void bins(void) {
     avsplus_state none = {0, 0, 0, 0, 0};
     avsplus_started s = avsplus_start(ten, 3, 24, none);
     avsplus_bin b = avsplus_decode(ten, 3, 24, s.state, avsplus_fresh_context());
-    expect("10: bin 1", b.status == 0 && b.bin == 1 && b.state.rs == 0 && b.state.rt == 254 && b.state.vs == 8 && b.state.vt == 0);
+    expect("10: bin 1", s.missing == 0 && b.status == 0 && b.missing == 0 && b.bin == 1 && b.state.rs == 0 && b.state.rt == 254 && b.state.vs == 8 && b.state.vt == 0);
     expect("10: what follows", b.state.place == 18 && b.context.mps == 1 && b.context.lg == 827 && b.context.cycno == 1);
     b.state = avsplus_start(eleven, 2, 16, none).state;
     b.context = avsplus_fresh_context();
@@ -285,7 +320,58 @@ static void bins(void) {
     expect("11: what follows", b.context.lg == 927 && b.context.cycno == 2);
     s = avsplus_start(twelve, 2, 16, none);
     b = avsplus_decode(twelve, 2, 16, s.state, avsplus_fresh_context());
-    expect("12: start done, then PAYLOAD OUT", s.status == 0 && b.status == 14 && b.bin == AVSPLUS_NO_BIN && b.state.place == s.state.place);
+    expect("12: start done, then PAYLOAD OUT, 1 missing", s.status == 0 && s.missing == 0 && b.status == 14 && b.missing == 1 && b.bin == AVSPLUS_NO_BIN &&
+                                                             b.state.place == s.state.place);
+}
+
+static void missing_of_start(void) {
+    avsplus_state given = {1, 2, 3, 4, 5};
+    bool first_nine = true, next = true;
+    for (size_t bits = 0; bits <= 40; bits++) {
+        avsplus_started s = avsplus_start(zeros, 5, bits, given);
+        bool refused = s.status == 14 && memcmp(&s.state, &given, sizeof given) == 0;
+        if (bits < 9) {
+            first_nine = first_nine && refused && s.missing == 9 - bits;
+        } else {
+            next = next && refused && s.missing == 1;
+        }
+    }
+    expect("start: of the first nine bits 9 to 1 missing, as many as are not there", first_nine);
+    expect("start: of what follows 1 missing", next);
+    avsplus_started s = avsplus_start(seven, 1, 999, given);
+    expect("start: 8 bits, all that the byte holds: 1 missing", s.status == 14 && s.missing == 1);
+    s = avsplus_start(too_long, sizeof too_long, 8, given);
+    expect("start: TOO LONG: none missing", s.status == AVSPLUS_TOO_LONG && s.missing == 0);
+}
+
+/* Whether each kind of bin is refused with this status and so many bits missing, and leaves state and contexts. */
+static bool all_bins_refuse(const uint8_t *bytes, size_t length, avsplus_state state, uint32_t status, uint32_t missing) {
+    avsplus_context fresh = avsplus_fresh_context();
+    avsplus_bin one = avsplus_decode(bytes, length, 16, state, fresh);
+    avsplus_pair_bin two = avsplus_decode_pair(bytes, length, 16, state, fresh, fresh);
+    avsplus_plain_bin plain[] = {avsplus_bypass(bytes, length, 16, state), avsplus_stuffing(bytes, length, 16, state)};
+    bool holds = one.status == status && one.missing == missing && one.bin == AVSPLUS_NO_BIN && memcmp(&one.context, &fresh, sizeof fresh) == 0 &&
+                 two.status == status && two.missing == missing && two.bin == AVSPLUS_NO_BIN && memcmp(&two.first, &fresh, sizeof fresh) == 0 &&
+                 memcmp(&two.second, &fresh, sizeof fresh) == 0 && memcmp(&one.state, &state, sizeof state) == 0 && memcmp(&two.state, &state, sizeof state) == 0;
+    for (int i = 0; i < 2; i++) {
+        holds = holds && plain[i].status == status && plain[i].missing == missing && plain[i].bin == AVSPLUS_NO_BIN && memcmp(&plain[i].state, &state, sizeof state) == 0;
+    }
+    return holds;
+}
+
+static void missing_of_bins(void) {
+    /* rT is below every lg / 4, so that a bin wants a bit. */
+    avsplus_state at_end = {0, 0, 0, 255, 16}, bad = {0, 256, 0, 255, 16};
+    expect("a bin of each kind at the end: 1 missing", all_bins_refuse(zeros, 2, at_end, 14, 1));
+    expect("BAD STATE: none missing", all_bins_refuse(zeros, 2, bad, AVSPLUS_BAD_STATE, 0));
+    expect("a bin of a payload that is TOO LONG: none missing", all_bins_refuse(too_long, sizeof too_long, at_end, AVSPLUS_TOO_LONG, 0));
+    avsplus_state none = {0, 0, 0, 0, 0};
+    static const uint8_t good[3] = {0x80, 0x40, 0x00};
+    avsplus_state started = avsplus_start(good, 3, 24, none).state;
+    avsplus_pair_bin two = avsplus_decode_pair(good, 3, 24, started, avsplus_fresh_context(), avsplus_fresh_context());
+    avsplus_plain_bin bypass = avsplus_bypass(good, 3, 24, started), stuffing = avsplus_stuffing(good, 3, 24, started);
+    expect("bins that are done: none missing", two.status == 0 && two.missing == 0 && bypass.status == 0 && bypass.missing == 0 &&
+                                                   stuffing.status == 0 && stuffing.missing == 0);
 }
 
 /* A null pointer with length 0, for what is read and for what is lent to be written. */
@@ -299,6 +385,7 @@ static void nothing(void) {
     expect("null numbers: FULL for a frame rate, and none given", is(avsplus_frame_rate(1, NULL, 0), 12, 0, 0) && is(avsplus_frame_rate(0, NULL, 0), 0, 0, 0));
     expect("null output: FULL, and nothing of nothing", is(avsplus_remove_escapes(stream, 1, NULL, 0), 12, 0, 0) && is(avsplus_remove_escapes(NULL, 0, NULL, 0), 0, 0, 0));
     expect("null payload: PAYLOAD OUT", avsplus_unsigned_golomb(NULL, 0, 8, 0).status == 14 && avsplus_start(NULL, 0, 9, none).status == 14);
+    expect("null payload: 1 bit of a number and 9 of the start missing", avsplus_unsigned_golomb(NULL, 0, 8, 0).missing == 1 && avsplus_start(NULL, 0, 9, none).missing == 9);
     expect("null stream: no start code", avsplus_next_start_code(NULL, 0, 0) == 0);
 }
 
@@ -310,7 +397,10 @@ int main(void) {
     refused_bits();
     extensions();
     payloads();
+    missing_of_numbers();
     bins();
+    missing_of_start();
+    missing_of_bins();
     nothing();
     return differing != 0;
 }
