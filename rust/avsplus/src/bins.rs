@@ -4,7 +4,7 @@ use avsplus_sys as sys;
 
 use crate::calls;
 use crate::payload::Payload;
-use crate::refused::{done, Reason, Refused};
+use crate::refused::{was_read, Reason, Refused};
 
 /// Where a bin decoder stands in its payload: a state is good for the payload that gave it.
 #[derive(Debug, Clone, Copy, PartialEq, Eq, Hash)]
@@ -70,7 +70,7 @@ impl Default for Context {
 }
 
 impl Payload<'_> {
-    /// Starts the bin decoder on the payload.
+    /// Starts the bin decoder on the payload. Its first nine bits are one read, and all others are read bit by bit.
     ///
     /// ```
     /// use avsplus::{Context, Payload, Reason};
@@ -78,8 +78,12 @@ impl Payload<'_> {
     /// let payload = Payload::whole(&[0x80, 0x00]);
     /// let mut state = payload.start()?;
     /// let (before, mut context) = (state, Context::FRESH);
-    /// assert_eq!(payload.decode(&mut state, &mut context).unwrap_err().reason, Reason::PayloadOut);
+    /// let refused = payload.decode(&mut state, &mut context).unwrap_err();
+    /// assert_eq!(refused.reason, Reason::PayloadOut { missing: 1 });
     /// assert_eq!((state, context), (before, Context::FRESH));
+    ///
+    /// let refused = Payload::first_bits(&[0x80], 6).start().unwrap_err();
+    /// assert_eq!(refused.reason, Reason::PayloadOut { missing: 3 });
     /// # Ok::<(), avsplus::Refused>(())
     /// ```
     pub fn start(&self) -> Result<State, Refused> {
@@ -92,7 +96,7 @@ impl Payload<'_> {
             place: 0,
         };
         let started = calls::start(self.bytes(), self.bits(), nothing)?;
-        done(started.status)?;
+        was_read(started.status, started.missing)?;
         Ok(State::from_sys(started.state))
     }
 
@@ -117,7 +121,7 @@ impl Payload<'_> {
     /// ```
     pub fn decode(&self, state: &mut State, context: &mut Context) -> Result<bool, Refused> {
         let step = calls::decode(self.bytes(), self.bits(), state.to_sys(), context.to_sys())?;
-        let bin = bin(step.status, step.bin)?;
+        let bin = bin(step.status, step.missing, step.bin)?;
         *state = State::from_sys(step.state);
         *context = Context::from_sys(step.context);
         Ok(bin)
@@ -140,7 +144,7 @@ impl Payload<'_> {
     pub fn decode_pair(&self, state: &mut State, first: &mut Context, second: &mut Context) -> Result<bool, Refused> {
         let (a, b) = (first.to_sys(), second.to_sys());
         let step = calls::decode_pair(self.bytes(), self.bits(), state.to_sys(), a, b)?;
-        let bin = bin(step.status, step.bin)?;
+        let bin = bin(step.status, step.missing, step.bin)?;
         *state = State::from_sys(step.state);
         *first = Context::from_sys(step.first);
         *second = Context::from_sys(step.second);
@@ -175,14 +179,14 @@ impl Payload<'_> {
 }
 
 fn plain(step: sys::PlainBin, state: &mut State) -> Result<bool, Refused> {
-    let bin = bin(step.status, step.bin)?;
+    let bin = bin(step.status, step.missing, step.bin)?;
     *state = State::from_sys(step.state);
     Ok(bin)
 }
 
 /// A decoded bin: nothing but 0 and 1 is one.
-fn bin(status: u32, bin: u32) -> Result<bool, Refused> {
-    done(status)?;
+fn bin(status: u32, missing: u32, bin: u32) -> Result<bool, Refused> {
+    was_read(status, missing)?;
     match bin {
         0 => Ok(false),
         1 => Ok(true),
@@ -201,8 +205,8 @@ mod tests {
 
     #[test]
     fn a_mark_is_no_bin() {
-        assert_eq!((bin(0, 0), bin(0, 1)), (Ok(false), Ok(true)));
-        assert_eq!(bin(0, sys::AVSPLUS_NO_BIN), Err(Reason::Malformed.into()));
-        assert_eq!(bin(14, sys::AVSPLUS_NO_BIN), Err(Reason::PayloadOut.into()));
+        assert_eq!((bin(0, 0, 0), bin(0, 0, 1)), (Ok(false), Ok(true)));
+        assert_eq!(bin(0, 0, sys::AVSPLUS_NO_BIN), Err(Reason::Malformed.into()));
+        assert_eq!(bin(14, 1, sys::AVSPLUS_NO_BIN), Err(Reason::PayloadOut { missing: 1 }.into()));
     }
 }

@@ -11,7 +11,8 @@
 //!
 //! A refusal for a marker, or for a value that is ruled out in a body, says at which bit of the body, and which field it is of:
 //! [`Reason::Marker`] and [`Reason::ValueOf`], which is a slice's too. [`Reason::Value`] is an Exp-Golomb number's alone, since
-//! version 2 of the interface.
+//! version 2 of the interface. A payload that ends too early says how many more bits were wanted than it holds:
+//! [`Reason::PayloadOut`].
 //!
 //! ```
 //! let header = [0x48, 0x40, 0x0F, 0x00, 0x21, 0xC2, 0x4C, 0xC4, 0xE2, 0x08, 0x00, 0x20, 0x02, 0x00, 0x80];

@@ -6,7 +6,7 @@ use std::fmt;
 use avsplus_sys as sys;
 
 use crate::calls;
-use crate::refused::{answered, done, Reason, Refused};
+use crate::refused::{answered, was_read, Reason, Refused};
 
 /// The most bytes of a payload.
 pub const LONGEST_PAYLOAD: usize = sys::AVSPLUS_LONGEST_PAYLOAD as usize;
@@ -19,7 +19,7 @@ pub const LONGEST_PAYLOAD: usize = sys::AVSPLUS_LONGEST_PAYLOAD as usize;
 /// // Two bits fill the last byte. At bit 8 a number is coded whose last bit is not there.
 /// let payload = remove_escapes(&[0xFF, 0x00, 0x00, 0x02, 0x40, 0x01, 0x01])?;
 /// assert_eq!((payload.bits(), payload.bytes().len()), (54, 7));
-/// assert_eq!(payload.unsigned_golomb(8).unwrap_err().reason, Reason::PayloadOut);
+/// assert_eq!(payload.unsigned_golomb(8).unwrap_err().reason, Reason::PayloadOut { missing: 1 });
 /// # Ok::<(), avsplus::Refused>(())
 /// ```
 #[derive(Clone)]
@@ -79,7 +79,8 @@ impl<'a> Payload<'a> {
         self.bits
     }
 
-    /// The Exp-Golomb number at bit `place`, and the place after it.
+    /// The Exp-Golomb number at bit `place`, and the place after it. The zeros before its first 1, and that 1, are read bit by bit;
+    /// the bits after it, as many as the zeros, are one read.
     ///
     /// ```
     /// use avsplus::{Payload, Reason};
@@ -88,11 +89,15 @@ impl<'a> Payload<'a> {
     /// assert_eq!(Payload::first_bits(&[0b0100_0000], 3).unsigned_golomb(0), Ok((1, 3)));
     /// let payload = Payload::first_bits(&[0b0110_0000], 3);
     /// assert_eq!(payload.unsigned_golomb(0), Ok((2, 3)));
-    /// assert_eq!(payload.unsigned_golomb(3).unwrap_err().reason, Reason::PayloadOut);
+    /// assert_eq!(payload.unsigned_golomb(3).unwrap_err().reason, Reason::PayloadOut { missing: 1 });
+    /// // Three zeros and a 1, and none of three bits.
+    /// let cut = Payload::first_bits(&[0b0001_0000], 4).unsigned_golomb(0).unwrap_err();
+    /// assert_eq!(cut.reason, Reason::PayloadOut { missing: 3 });
+    /// assert_eq!(cut.to_string(), "PAYLOAD OUT (14): 3 more bits were wanted than the payload holds");
     /// ```
     pub fn unsigned_golomb(&self, place: usize) -> Result<(u32, usize), Refused> {
         let golomb = calls::unsigned_golomb(&self.bytes, self.bits, place)?;
-        done(golomb.status)?;
+        was_read(golomb.status, golomb.missing)?;
         match golomb.number {
             sys::AVSPLUS_NO_NUMBER => Err(Reason::Malformed.into()),
             number => Ok((number, golomb.place)),
@@ -109,7 +114,7 @@ impl<'a> Payload<'a> {
     /// ```
     pub fn signed_golomb(&self, place: usize) -> Result<(i32, usize), Refused> {
         let signed = calls::signed_golomb(&self.bytes, self.bits, place)?;
-        done(signed.status)?;
+        was_read(signed.status, signed.missing)?;
         match signed.number {
             sys::AVSPLUS_NO_SIGNED_NUMBER => Err(Reason::Malformed.into()),
             number => Ok((number, signed.place)),

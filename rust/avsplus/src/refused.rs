@@ -1,5 +1,6 @@
 //! Why a call has no answer: the refusals' numbers, names and sentences in one table, and the one error type.
 
+use std::borrow::Cow;
 use std::error::Error;
 use std::fmt;
 
@@ -56,7 +57,8 @@ impl fmt::Display for JudgedField {
 
 /// Why something is refused. Later versions may have more reasons.
 ///
-/// Since version 2 of the interface `Value` is an Exp-Golomb number's alone: bodies and slices have `ValueOf`.
+/// Since version 2 of the interface `Value` is an Exp-Golomb number's alone: bodies and slices have `ValueOf`. Since version 3
+/// `PayloadOut` has how many bits were missing.
 #[derive(Debug, Clone, Copy, PartialEq, Eq, Hash)]
 #[non_exhaustive]
 pub enum Reason {
@@ -96,8 +98,13 @@ pub enum Reason {
     Full,
     /// The stream or payload is over the limit.
     TooLong,
-    /// A bit is wanted and none is left.
-    PayloadOut,
+    /// More bits are wanted than the payload holds.
+    PayloadOut {
+        /// How many more than there are, at least 1: by the one read that failed, which takes none of its bits. The nine bits
+        /// that bins start with are one read, and so are those of an Exp-Golomb number after its first 1; all others are read
+        /// bit by bit. What would be read after it is not counted. A place past the payload's end counts as its end.
+        missing: u32,
+    },
     /// A bin state or context is outside its ranges.
     BadState,
     /// There is no such row or group.
@@ -122,6 +129,13 @@ pub struct ListedRefusal {
     pub meaning: &'static str,
 }
 
+impl fmt::Display for ListedRefusal {
+    /// Name and number: `PAYLOAD OUT (14)`.
+    fn fmt(&self, f: &mut fmt::Formatter<'_>) -> fmt::Result {
+        f.pad(&format!("{} ({})", self.name, self.number))
+    }
+}
+
 impl ListedRefusal {
     /// The library's refusals, in the order of their numbers.
     pub fn all() -> impl ExactSizeIterator<Item = ListedRefusal> + DoubleEndedIterator {
@@ -141,13 +155,24 @@ impl ListedRefusal {
     }
 }
 
-/// A reason but for the bit that it carries.
+/// What an answer of the library carries beside its status and offset; none carries two of these.
+#[derive(Debug, Clone, Copy, PartialEq, Eq)]
+enum Carried {
+    Nothing,
+    /// Which bit of the body.
+    Bit(usize),
+    /// How many bits were missing.
+    Missing(u32),
+}
+
+/// A reason but for what it carries.
 #[derive(Debug, Clone, Copy, PartialEq, Eq)]
 enum Form {
-    /// One that carries none.
+    /// One that carries nothing.
     Plain(Reason),
     Marker,
     ValueOf(JudgedField),
+    PayloadOut,
 }
 
 impl Form {
@@ -155,16 +180,18 @@ impl Form {
         match reason {
             Reason::Marker { .. } => Form::Marker,
             Reason::ValueOf { field, .. } => Form::ValueOf(field),
+            Reason::PayloadOut { .. } => Form::PayloadOut,
             plain => Form::Plain(plain),
         }
     }
 
-    /// The reason: none where a bit is there that it does not carry, or is not there that it does.
-    fn with(self, bit: Option<usize>) -> Option<Reason> {
-        match (self, bit) {
-            (Form::Plain(reason), None) => Some(reason),
-            (Form::Marker, Some(bit)) => Some(Reason::Marker { bit }),
-            (Form::ValueOf(field), Some(bit)) => Some(Reason::ValueOf { field, bit }),
+    /// The reason: none where something is there that it does not carry, or is not there that it does.
+    fn with(self, carried: Carried) -> Option<Reason> {
+        match (self, carried) {
+            (Form::Plain(reason), Carried::Nothing) => Some(reason),
+            (Form::Marker, Carried::Bit(bit)) => Some(Reason::Marker { bit }),
+            (Form::ValueOf(field), Carried::Bit(bit)) => Some(Reason::ValueOf { field, bit }),
+            (Form::PayloadOut, Carried::Missing(missing)) => Some(Reason::PayloadOut { missing }),
             _ => None,
         }
     }
@@ -208,7 +235,7 @@ const TABLE: [Entry; 29] = [
     plain(Reason::Unended, sys::AVSPLUS_UNENDED, "UNENDED", "the stream stops before it is complete"),
     plain(Reason::Full, sys::AVSPLUS_FULL, "FULL", "the room lent is too small"),
     plain(Reason::TooLong, sys::AVSPLUS_TOO_LONG, "TOO LONG", "there are more bytes than the limit"),
-    plain(Reason::PayloadOut, sys::AVSPLUS_PAYLOAD_OUT, "PAYLOAD OUT", "a bit is wanted and none is left"),
+    entry(Form::PayloadOut, sys::AVSPLUS_PAYLOAD_OUT, "PAYLOAD OUT", "more bits are wanted than the payload holds"),
     plain(Reason::BadState, sys::AVSPLUS_BAD_STATE, "BAD STATE", "a bin state or context is outside its ranges"),
     plain(Reason::NoRow, sys::AVSPLUS_NO_ROW, "NO ROW", "there is no such unit or group"),
     value_of(JudgedField::Width, sys::AVSPLUS_VALUE_WIDTH, "VALUE of width", "the horizontal size is 0"),
@@ -254,21 +281,42 @@ impl Reason {
         }
     }
 
-    /// What it means, in a few words for a person.
-    pub fn meaning(self) -> &'static str {
-        match self {
+    /// What it means, in a few words for a person; of PAYLOAD OUT with how many bits were missing.
+    ///
+    /// ```
+    /// use avsplus::Reason;
+    ///
+    /// let reason = Reason::PayloadOut { missing: 3 };
+    /// assert_eq!(reason.meaning(), "3 more bits were wanted than the payload holds");
+    /// assert_eq!(reason.listed().unwrap().meaning, "more bits are wanted than the payload holds");
+    /// ```
+    pub fn meaning(self) -> Cow<'static, str> {
+        let plain = match self {
+            Reason::PayloadOut { missing: 1 } => "1 more bit was wanted than the payload holds",
+            Reason::PayloadOut { missing } => {
+                return format!("{} more bits were wanted than the payload holds", missing).into()
+            }
             Reason::Unlisted(_) => "the library answers with a status that is not known here",
             Reason::OtherInterface(_) => "the library has another interface than this program",
             _ => self
                 .listed()
                 .map_or("the library's answer has no known form", |listed| listed.meaning),
-        }
+        };
+        plain.into()
     }
 
     /// The bit of the body that it carries, counted from 0: that of MARKER and of VALUE of a field.
     pub fn bit(self) -> Option<usize> {
         match self {
             Reason::Marker { bit } | Reason::ValueOf { bit, .. } => Some(bit),
+            _ => None,
+        }
+    }
+
+    /// How many bits were missing: that of PAYLOAD OUT.
+    pub fn missing(self) -> Option<u32> {
+        match self {
+            Reason::PayloadOut { missing } => Some(missing),
             _ => None,
         }
     }
@@ -281,21 +329,23 @@ impl Reason {
         }
     }
 
-    /// Of a status that is not done, and of the bit beside it. Where these do not go together the answer is of no form.
-    fn of(status: u32, bit: Option<usize>) -> Reason {
-        match (TABLE.iter().find(|entry| entry.listed.number == status), bit) {
-            (Some(entry), _) => entry.form.with(bit).unwrap_or(Reason::Malformed),
-            (None, None) => Reason::Unlisted(status),
-            (None, Some(_)) => Reason::Malformed,
+    /// Of a status that is not done, and of what it carries. Where these do not go together the answer is of no form.
+    fn of(status: u32, carried: Carried) -> Reason {
+        match (TABLE.iter().find(|entry| entry.listed.number == status), carried) {
+            (Some(entry), _) => entry.form.with(carried).unwrap_or(Reason::Malformed),
+            (None, Carried::Nothing) => Reason::Unlisted(status),
+            (None, _) => Reason::Malformed,
         }
     }
 }
 
 impl fmt::Display for Reason {
-    /// Name and number, where it has one; of another interface its version.
+    /// Name and number, where it has one; of PAYLOAD OUT how many bits were missing; of another interface its version.
     fn fmt(&self, f: &mut fmt::Formatter<'_>) -> fmt::Result {
-        match (self, self.number()) {
-            (_, Some(number)) => f.pad(&format!("{} ({})", self.name(), number)),
+        match (self, self.listed()) {
+            (Reason::PayloadOut { .. }, Some(listed)) => f.pad(&format!("{}: {}", listed, self.meaning())),
+            (_, Some(listed)) => listed.fmt(f),
+            (Reason::Unlisted(status), None) => f.pad(&format!("{} ({})", self.name(), status)),
             (Reason::OtherInterface(version), None) => f.pad(&format!("{} (version {})", self.name(), version)),
             (_, None) => f.pad(self.name()),
         }
@@ -306,7 +356,7 @@ impl fmt::Display for Reason {
 #[derive(Debug, Clone, Copy, PartialEq, Eq, Hash)]
 #[non_exhaustive]
 pub struct Refused {
-    /// The reason; of MARKER and of VALUE of a field with the bit of the body.
+    /// The reason; of MARKER and of VALUE of a field with the bit of the body, of PAYLOAD OUT with how many bits were missing.
     pub reason: Reason,
     /// Of a refused stream the offset of the refused unit's start code; 0 for NO CODE, FULL and TOO LONG, the stream's length
     /// for UNENDED. NO ROW, and refusals of single bodies and of payloads, have none.
@@ -322,7 +372,8 @@ impl From<Reason> for Refused {
 }
 
 impl fmt::Display for Refused {
-    /// The reason, and where: `VALUE of rate (25) at byte 0, bit 54 of the body`.
+    /// The reason, and where: `VALUE of rate (25) at byte 0, bit 54 of the body`. What PAYLOAD OUT carries is no place, and stands
+    /// in the reason: `PAYLOAD OUT (14): 3 more bits were wanted than the payload holds`.
     fn fmt(&self, f: &mut fmt::Formatter<'_>) -> fmt::Result {
         let reason = self.reason;
         match (self.offset, reason.bit()) {
@@ -336,26 +387,31 @@ impl fmt::Display for Refused {
 
 impl Error for Refused {}
 
-/// A status, and the bit where there is one, as a result.
-fn status_and_bit(status: u32, bit: Option<usize>) -> Result<(), Refused> {
-    match (status, bit) {
-        (sys::AVSPLUS_DONE, None) => Ok(()),
-        _ => Err(Reason::of(status, bit).into()),
+/// A status, and what comes with it, as a result.
+fn done(status: u32, carried: Carried) -> Result<(), Refused> {
+    match (status, carried) {
+        (sys::AVSPLUS_DONE, Carried::Nothing) => Ok(()),
+        _ => Err(Reason::of(status, carried).into()),
     }
 }
 
-/// A status that comes with no bit as a result.
-pub(crate) fn done(status: u32) -> Result<(), Refused> {
-    status_and_bit(status, None)
+/// The status of what is read of a payload's bits as a result. PAYLOAD OUT comes with how many bits were missing, and 0 are
+/// none.
+pub(crate) fn was_read(status: u32, missing: u32) -> Result<(), Refused> {
+    let carried = match missing {
+        0 => Carried::Nothing,
+        _ => Carried::Missing(missing),
+    };
+    done(status, carried)
 }
 
 /// An answer as a result: its count, or its refusal without an offset.
 pub(crate) fn answered(answer: sys::Answer) -> Result<usize, Refused> {
-    let bit = match answer.bit {
-        sys::AVSPLUS_NO_BIT => None,
-        bit => Some(bit),
+    let carried = match answer.bit {
+        sys::AVSPLUS_NO_BIT => Carried::Nothing,
+        bit => Carried::Bit(bit),
     };
-    status_and_bit(answer.status, bit).map(|()| answer.count)
+    done(answer.status, carried).map(|()| answer.count)
 }
 
 /// An answer about a stream as a result: its count, or its refusal with the offset. NO ROW has none, and of a status that is not
@@ -382,11 +438,15 @@ pub(crate) fn same_interface(version: u32) -> Result<(), Refused> {
 mod tests {
     use super::*;
 
-    /// Every refusal as the library answers with it: with a bit where it carries one.
+    /// Every refusal as the library answers with it: with what it carries.
     fn all() -> Vec<Reason> {
-        let bit = |number| if number == 7 || number >= 20 { Some(5) } else { None };
+        let carried = |number| match number {
+            7 | 20..=32 => Carried::Bit(5),
+            14 => Carried::Missing(5),
+            _ => Carried::Nothing,
+        };
         ListedRefusal::all()
-            .map(|listed| Reason::of(listed.number, bit(listed.number)))
+            .map(|listed| Reason::of(listed.number, carried(listed.number)))
             .collect()
     }
 
@@ -406,7 +466,7 @@ mod tests {
             (Reason::Unended, 11, "UNENDED"),
             (Reason::Full, 12, "FULL"),
             (Reason::TooLong, 13, "TOO LONG"),
-            (Reason::PayloadOut, 14, "PAYLOAD OUT"),
+            (Reason::PayloadOut { missing: 5 }, 14, "PAYLOAD OUT"),
             (Reason::BadState, 15, "BAD STATE"),
             (Reason::NoRow, 16, "NO ROW"),
         ];
@@ -446,8 +506,9 @@ mod tests {
         ];
         for (number, (field, name)) in (20..=32).zip(expected) {
             let reason = Reason::ValueOf { field, bit: 5 };
-            assert_eq!((Reason::of(number, Some(5)), reason.number()), (reason, Some(number)));
+            assert_eq!((Reason::of(number, Carried::Bit(5)), reason.number()), (reason, Some(number)));
             assert_eq!((field.name(), reason.field(), reason.bit()), (name, Some(field), Some(5)));
+            assert_eq!(reason.missing(), None);
             assert_eq!(reason.name(), format!("VALUE of {}", name));
         }
     }
@@ -462,10 +523,11 @@ mod tests {
         }
     }
 
-    /// Status by status: one of a bit and its lack is an answer, the other has no form. A status that is not known has no bit.
+    /// Status by status: one of a bit and its lack is an answer, the other has no form. A status that is not known has no bit, and
+    /// PAYLOAD OUT is none of these answers, for they do not say how many bits were missing.
     #[test]
     fn status_and_bit_go_together() {
-        for status in 0..40 {
+        for status in (0..40).filter(|&status| status != 14) {
             let carries = status == 7 || (20..=32).contains(&status);
             for bit in [0, 54, usize::MAX - 1, sys::AVSPLUS_NO_BIT] {
                 let fits = carries == (bit != sys::AVSPLUS_NO_BIT);
@@ -474,23 +536,44 @@ mod tests {
                     assert_eq!(malformed, !fits, "{} {}", status, bit);
                 }
             }
-            // Numbers and bins come with a status alone.
-            assert_eq!(done(status) == Err(Reason::Malformed.into()), carries);
+        }
+        for bit in [0, sys::AVSPLUS_NO_BIT] {
+            assert_eq!(of_stream(answer(14, 0, bit)), Err(Reason::Malformed.into()));
         }
         assert_eq!(answered(answer(0, 0, sys::AVSPLUS_NO_BIT)), Ok(0));
     }
 
+    /// Numbers and bins come with how many bits were missing, at least 1, where they are PAYLOAD OUT, and with 0 else. They have no
+    /// bit of a body.
+    #[test]
+    fn status_and_missing_bits_go_together() {
+        for status in 0..40 {
+            let of_bodies = status == 7 || (20..=32).contains(&status);
+            for missing in [0, 1, 9, 31, u32::MAX] {
+                let fits = (status == 14) == (missing > 0) && !of_bodies;
+                let malformed = was_read(status, missing) == Err(Reason::Malformed.into());
+                assert_eq!(malformed, !fits, "{} {}", status, missing);
+            }
+        }
+        assert_eq!(was_read(0, 0), Ok(()));
+        for missing in [1, 9, 31] {
+            let refused = was_read(14, missing).unwrap_err();
+            assert_eq!((refused.reason, refused.offset), (Reason::PayloadOut { missing }, None));
+            assert_eq!((refused.reason.missing(), refused.reason.bit()), (Some(missing), None));
+        }
+    }
+
     #[test]
     fn a_status_that_is_not_known_is_an_error() {
-        assert_eq!((done(0), done(16)), (Ok(()), Err(Reason::NoRow.into())));
+        assert_eq!((was_read(0, 0), was_read(16, 0)), (Ok(()), Err(Reason::NoRow.into())));
         for status in [17, 19, 33, u32::MAX] {
-            let refused = done(status).unwrap_err();
+            let refused = was_read(status, 0).unwrap_err();
             assert_eq!(
                 (refused.reason, refused.reason.number(), refused.reason.listed()),
                 (Reason::Unlisted(status), Some(status), None)
             );
         }
-        assert_eq!(done(17).unwrap_err().to_string(), "UNLISTED (17)");
+        assert_eq!(was_read(17, 0).unwrap_err().to_string(), "UNLISTED (17)");
     }
 
     #[test]
@@ -501,7 +584,7 @@ mod tests {
             (refused.reason, refused.reason.number(), refused.reason.listed()),
             (Reason::OtherInterface(sys::AVSPLUS_VERSION + 1), None, None)
         );
-        assert_eq!(refused.to_string(), "OTHER INTERFACE (version 3)");
+        assert_eq!(refused.to_string(), "OTHER INTERFACE (version 4)");
     }
 
     #[test]
@@ -519,6 +602,25 @@ mod tests {
         assert_eq!(
             format!("{:>12}|{:<8}|{:<6}|", Reason::Cut, Reason::Malformed, JudgedField::Rate),
             "     CUT (2)|MALFORMED|rate  |"
+        );
+    }
+
+    #[test]
+    fn missing_bits_are_shown_with_their_number() {
+        for (missing, said) in [
+            (1, "1 more bit was wanted than the payload holds"),
+            (3, "3 more bits were wanted than the payload holds"),
+            (31, "31 more bits were wanted than the payload holds"),
+        ] {
+            let refused = was_read(14, missing).unwrap_err();
+            let whole = format!("PAYLOAD OUT (14): {}", said);
+            assert_eq!(refused.reason.meaning(), said);
+            assert_eq!((refused.reason.to_string(), refused.to_string()), (whole.clone(), whole));
+        }
+        let listed = ListedRefusal::from_number(14).unwrap();
+        assert_eq!(
+            format!("{:<18}|{:>9}|", listed, Reason::Full),
+            "PAYLOAD OUT (14)  |FULL (12)|"
         );
     }
 }

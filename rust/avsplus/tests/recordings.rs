@@ -248,7 +248,10 @@ fn the_bit_count_travels_with_the_bytes() {
     let raw = [0xFF, 0x00, 0x00, 0x02, 0x40, 0x01, 0x01];
     let payload = avsplus::remove_escapes(&raw).unwrap();
     assert_eq!((payload.bits(), payload.bytes().len()), (54, 7));
-    assert_eq!(payload.unsigned_golomb(8).unwrap_err().reason, Reason::PayloadOut);
+    assert_eq!(
+        payload.unsigned_golomb(8).unwrap_err().reason,
+        Reason::PayloadOut { missing: 1 }
+    );
     assert!(Payload::whole(payload.bytes()).unsigned_golomb(8).is_ok());
     let owned = Payload::first_bits(payload.bytes(), 54).into_owned();
     assert_eq!((owned.bits(), owned.bytes()), (54, payload.bytes()));
@@ -256,8 +259,71 @@ fn the_bit_count_travels_with_the_bytes() {
     let mut output = [0xAA; 9];
     let lent = avsplus::remove_escapes_into(&raw, &mut output).unwrap();
     assert_eq!((lent.bits(), lent.bytes()), (54, payload.bytes()));
-    assert_eq!(lent.signed_golomb(8).unwrap_err().reason, Reason::PayloadOut);
+    assert_eq!(lent.signed_golomb(8).unwrap_err().reason, Reason::PayloadOut { missing: 1 });
     assert_eq!(output[7..], [0xAA; 2]);
+}
+
+/// Why there is no number at a place, unsigned or signed.
+fn no_number(payload: &Payload, place: usize) -> Reason {
+    let reason = payload.unsigned_golomb(place).unwrap_err().reason;
+    assert_eq!(payload.signed_golomb(place).unwrap_err().reason, reason);
+    reason
+}
+
+/// Zeros and the 1 are read bit by bit, and what follows at once, whatever the zeros; all bits before the place are 1.
+#[test]
+fn missing_bits_of_numbers() {
+    for (before, zeros) in [0, 5, 8]
+        .into_iter()
+        .flat_map(|before| (0..32).map(move |zeros| (before, zeros)))
+    {
+        let one = before + zeros;
+        let mut bytes = [0; 9];
+        for bit in (0..before).chain([one]) {
+            bytes[bit / 8] |= 0x80 >> (bit % 8);
+        }
+        for cut in before..=one {
+            let reason = no_number(&Payload::first_bits(&bytes, cut), before);
+            assert_eq!(reason, Reason::PayloadOut { missing: 1 }, "{} {}", zeros, cut);
+        }
+        for missing in 1..=zeros {
+            let reason = no_number(&Payload::first_bits(&bytes, one + 1 + zeros - missing), before);
+            let missing = missing as u32;
+            assert_eq!(reason, Reason::PayloadOut { missing }, "{} {}", zeros, missing);
+        }
+        let whole = Payload::first_bits(&bytes, one + 1 + zeros);
+        assert_eq!(whole.unsigned_golomb(before), Ok(((1 << zeros) - 1, one + 1 + zeros)));
+    }
+    assert_eq!(no_number(&Payload::first_bits(&[0; 4], 32), 0), Reason::Value);
+    for place in [8, 9, usize::MAX] {
+        assert_eq!(no_number(&Payload::whole(&[0xFF]), place), Reason::PayloadOut { missing: 1 });
+    }
+}
+
+#[test]
+fn missing_bits_of_bins() {
+    for (bits, missing) in (0..40).map(|bits| (bits, 9_u32.saturating_sub(bits as u32).max(1))) {
+        let refused = Payload::first_bits(&[0; 5], bits).start().unwrap_err();
+        assert_eq!(refused.reason, Reason::PayloadOut { missing }, "{}", bits);
+    }
+    // At the end, with rT below every lg / 4, each bin wants a bit.
+    let at_end = avsplus::State {
+        rs: 0,
+        rt: 0,
+        vs: 0,
+        vt: 255,
+        place: 16,
+    };
+    let payload = Payload::whole(&[0; 2]);
+    let (mut state, mut first, mut second) = (at_end, Context::FRESH, Context::FRESH);
+    let refused = [
+        payload.decode(&mut state, &mut first),
+        payload.decode_pair(&mut state, &mut first, &mut second),
+        payload.bypass(&mut state),
+        payload.stuffing(&mut state),
+    ];
+    assert_eq!(refused, [Err(Reason::PayloadOut { missing: 1 }.into()); 4]);
+    assert_eq!((state, first, second), (at_end, Context::FRESH, Context::FRESH));
 }
 
 #[test]
@@ -333,7 +399,7 @@ fn empty_inputs() {
     assert_eq!(avsplus::sequence_header(&[]).unwrap_err().reason, Reason::Short);
     let nothing = avsplus::remove_escapes(&[]).unwrap();
     assert_eq!((nothing.bits(), nothing.bytes().len()), (0, 0));
-    assert_eq!(nothing.unsigned_golomb(0).unwrap_err().reason, Reason::PayloadOut);
-    assert_eq!(nothing.start().unwrap_err().reason, Reason::PayloadOut);
+    assert_eq!(no_number(&nothing, 0), Reason::PayloadOut { missing: 1 });
+    assert_eq!(nothing.start().unwrap_err().reason, Reason::PayloadOut { missing: 9 });
     assert_eq!((next_start_code(&[], 0), next_start_code(&[0, 0, 1], 9)), (Ok(0), Ok(3)));
 }
