@@ -2,7 +2,7 @@
 
 use std::io::Write;
 
-use avsplus::{Context, Payload, Reason, Refused, State};
+use avsplus::{Context, Payload, Refused, State};
 
 use crate::args::Args;
 use crate::failure::{Failure, Refusal, Status, Written};
@@ -112,24 +112,20 @@ pub fn bins(args: &Args, output: &mut dyn Write) -> Result<Status, Failure> {
     concluded(written, refusal_at_end(&given, &bins)?, false)
 }
 
-/// What ended the bins: of PAYLOAD OUT after how many, and which bits were not read.
+/// What ended the bins: of PAYLOAD OUT after how many, how many bits were missing, and which were not read.
 fn refusal_at_end(given: &Given, bins: &Bins) -> Result<Option<Refusal>, Failure> {
     let refusal = match bins.refused {
         Some(refused) => refusal_of(refused)?,
         None => return Ok(None),
     };
-    if refusal.reason() != Reason::PayloadOut {
+    if refusal.reason().missing().is_none() {
         return Ok(Some(refusal));
     }
     let begun = match bins.state {
         Some(_) => format!("after {} of {} bins", bins.found, bins.wanted),
         None => "to start".to_string(),
     };
-    let meaning = format!(
-        "{} a bit is wanted and none is left{}",
-        begun,
-        given.about_unsure(given.unsure)
-    );
+    let meaning = format!("{}, {}{}", begun, refusal.meaning, given.without_unsure(given.unsure));
     Ok(Some(refusal.meaning(meaning)))
 }
 

@@ -96,7 +96,7 @@ impl From<Refused> for Refusal {
         Refusal {
             refused,
             place: None,
-            meaning: refused.reason.meaning().to_string(),
+            meaning: refused.reason.meaning().into_owned(),
         }
     }
 }
@@ -119,11 +119,12 @@ impl Refusal {
         Refusal { meaning, ..self }
     }
 
-    /// Name, number, and where.
+    /// Name, number, and where. What PAYLOAD OUT carries is in its meaning.
     pub fn answer(&self) -> String {
-        match self.place {
-            Some(place) => format!("{} at bit {}", self.reason(), place),
-            None => self.refused.to_string(),
+        match (self.reason().listed(), self.place) {
+            (Some(listed), Some(place)) => format!("{} at bit {}", listed, place),
+            (Some(listed), None) if self.reason().missing().is_some() => listed.to_string(),
+            _ => self.refused.to_string(),
         }
     }
 
@@ -154,6 +155,7 @@ mod tests {
             Reason::Marker { bit: 76 },
             Reason::Value,
             Reason::ValueOf { field, bit: 54 },
+            Reason::PayloadOut { missing: 3 },
         ] {
             assert!(
                 matches!(Failure::from(Refused::from(reason)), Failure::Refused(_)),
@@ -171,7 +173,18 @@ mod tests {
             of_body.in_words(),
             "VALUE of rate (25) at bit 54 of the body: the frame rate code is not 1 to 8"
         );
-        let of_payload = Refusal::from(Refused::from(Reason::PayloadOut)).at_bit(9);
-        assert_eq!(of_payload.answer(), "PAYLOAD OUT (14) at bit 9");
+        let of_payload = Refusal::from(Refused::from(Reason::Value)).at_bit(9);
+        assert_eq!(of_payload.answer(), "VALUE (8) at bit 9");
+    }
+
+    #[test]
+    fn missing_bits_are_said_once() {
+        let refusal = Refusal::from(Refused::from(Reason::PayloadOut { missing: 3 }));
+        let missing = "3 more bits were wanted than the payload holds";
+        assert_eq!(refusal.in_words(), format!("PAYLOAD OUT (14): {}", missing));
+        assert_eq!(
+            refusal.at_bit(9).in_words(),
+            format!("PAYLOAD OUT (14) at bit 9: {}", missing)
+        );
     }
 }

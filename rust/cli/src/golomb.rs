@@ -2,7 +2,7 @@
 
 use std::io::Write;
 
-use avsplus::{Payload, Reason, Refused};
+use avsplus::{Payload, Refused};
 
 use crate::args::Args;
 use crate::failure::{Failure, Refusal, Status, Written};
@@ -22,6 +22,19 @@ struct Numbers<'p> {
     refused: Option<Refused>,
 }
 
+impl Numbers<'_> {
+    /// What the library answers to the number at the place: the number, and the place after it.
+    fn read(&self) -> Result<(i64, usize), Refused> {
+        match self.signed {
+            true => self.payload.signed_golomb(self.place).map(|(n, after)| (i64::from(n), after)),
+            false => self
+                .payload
+                .unsigned_golomb(self.place)
+                .map(|(n, after)| (i64::from(n), after)),
+        }
+    }
+}
+
 impl Iterator for Numbers<'_> {
     type Item = (usize, i64);
 
@@ -29,14 +42,7 @@ impl Iterator for Numbers<'_> {
         if self.wanted == Some(self.found) || self.refused.is_some() {
             return None;
         }
-        let read = match self.signed {
-            true => self.payload.signed_golomb(self.place).map(|(n, after)| (i64::from(n), after)),
-            false => self
-                .payload
-                .unsigned_golomb(self.place)
-                .map(|(n, after)| (i64::from(n), after)),
-        };
-        match read {
+        match self.read() {
             Ok((number, after)) => {
                 let place = std::mem::replace(&mut self.place, after);
                 self.found += 1;
@@ -62,13 +68,12 @@ pub fn golomb(args: &Args, output: &mut dyn Write) -> Result<Status, Failure> {
         wanted,
         found: 0,
         place,
-        // A place past the end is none, even where no number is wanted.
-        refused: if place > given.bits() {
-            Some(Reason::PayloadOut.into())
-        } else {
-            None
-        },
+        refused: None,
     };
+    // A place past the end is none, even where no number is wanted.
+    if place > given.bits() {
+        numbers.refused = numbers.read().err();
+    }
     if args.json() {
         let first = numbers.clone();
         numbers.by_ref().for_each(drop);
@@ -90,38 +95,39 @@ fn refusal_at_end(given: &Given, numbers: &Numbers) -> Result<Option<Refusal>, F
         None => return Ok(None),
     };
     let refusal = refusal_of(refused)?.at_bit(numbers.place);
-    if refusal.reason() != Reason::PayloadOut {
+    if refusal.reason().missing().is_none() {
         return Ok(Some(refusal));
     }
-    let all_read = numbers.wanted.is_none() && numbers.found > 0 && numbers.place == given.bits();
-    Ok(match all_read {
-        true => None,
-        false => Some(refusal.meaning(cut(given, numbers.place))),
-    })
+    if numbers.wanted.is_none() && numbers.found > 0 && numbers.place == given.bits() {
+        return Ok(None);
+    }
+    let meaning = cut(given, numbers.place, &refusal.meaning);
+    Ok(Some(refusal.meaning(meaning)))
 }
 
-/// What is left where a number is cut.
-fn cut(given: &Given, place: usize) -> String {
-    if place > given.bits() {
-        return format!("bit {} is past the payload's end: it has {}", place, bits(given.bits()));
-    }
-    let left = given.bits() - place;
-    let are_left = match left {
-        0 => return format!("a bit is wanted, and the payload has {}", bits(given.bits())),
-        1 => "1 bit is".to_string(),
-        left => format!("{} are", bits(left)),
+/// What is left where a number is cut, with the sentence of what was missing.
+fn cut(given: &Given, place: usize, missing: &str) -> String {
+    let end = given.bits();
+    let counts_as = match place > end {
+        true => format!("a place past the end counts as the end, bit {}: ", end),
+        false => String::new(),
     };
-    // Whether they are a number with the bits that may be filling is for the caller to say.
+    let left = end.saturating_sub(place);
+    let are = if left == 1 { "is" } else { "are" };
+    // Where the bits that may be filling would make it a number, whether it is one is for the caller to say.
     let number = match Payload::whole(given.payload.bytes()).unsigned_golomb(place) {
-        Ok(_) if given.unsure > 0 => "",
-        _ => ", no whole number",
+        Err(_) if given.unsure.min(left) > 0 => ", no whole number",
+        _ => "",
     };
+    let without = given.without_unsure(left);
     format!(
-        "{} left from bit {} on{}{}",
-        are_left,
-        place,
+        "{}{} {} left{}, and {}{}",
+        counts_as,
+        bits(left),
+        are,
         number,
-        given.about_unsure(left)
+        missing,
+        without
     )
 }
 

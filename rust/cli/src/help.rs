@@ -147,7 +147,9 @@ pub const GOLOMB: &str = concat!(
     "\
 Reads Exp-Golomb numbers one after another and prints each with its bit place. Without
 --count it reads until the payload ends; bits that are left and are no whole number,
-such as zeros that may be filling, are a refusal, which says how many they are.
+such as zeros that may be filling, are a refusal, which says how many they are and how
+many more were wanted. The zeros before a number's first 1, and that 1, are read bit by
+bit, so that 1 more is wanted; the bits after it, as many as the zeros, are one read.
 
 Usage: avsplus golomb FILE [--unit N | --escaped | --bits N] [--signed] [--place P]
                            [--count K] [--json]
@@ -170,7 +172,9 @@ wrong arguments, or a file or output that cannot be read or written.
 pub const BINS: &str = concat!(
     "\
 Starts the arithmetic decoder on a payload, decodes bins with one fresh context, and
-prints the bins, the state and the context after them.
+prints the bins, the state and the context after them. A payload that ends too early is
+a refusal, which says how many more bits were wanted. The first nine bits are one read,
+so that 1 to 9 more are wanted to start; all others are read bit by bit, and 1 more is.
 
 Usage: avsplus bins FILE [--unit N | --escaped | --bits N] --count K
                          [--bypass | --stuffing] [--json]
@@ -193,7 +197,9 @@ read or written.
 pub const REFUSALS: &str = "\
 The refusals: number, name, and what each means. MARKER and VALUE of a field, 20 to 32,
 are told with the bit of the body: the marker, or the field's first bit, and 0 for a
-slice, which is refused for its code byte. docs/RULES.md of the project says of each
-refusal exactly when it is given, and what to look at in the recording.
+slice, which is refused for its code byte. PAYLOAD OUT is told with how many more bits
+were wanted than the payload holds, by the one read that failed: what would be read after
+it is not counted. docs/RULES.md of the project says of each refusal exactly when it is
+given, and what to look at in the recording.
 
 ";

@@ -122,7 +122,8 @@ impl Object<'_> {
         }
     }
 
-    /// The members that name a refusal and say where it stands; what it does not carry is no member.
+    /// The members that name a refusal and say where it stands and how many bits were missing; what it does not carry is no
+    /// member.
     pub fn refused(&mut self, refusal: &Refusal) -> Written {
         let reason = refusal.reason();
         self.put("answer", reason.name())?;
@@ -138,6 +139,9 @@ impl Object<'_> {
             if let Some(place) = place {
                 self.put(name, place)?;
             }
+        }
+        if let Some(missing) = reason.missing() {
+            self.put("missing", missing)?;
         }
         self.put("meaning", refusal.meaning.as_str())
     }

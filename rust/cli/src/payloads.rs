@@ -71,14 +71,18 @@ impl Given {
         self.payload.bits() + self.unsure
     }
 
-    /// What is to be said of so many bits, or of those that are not read where these are fewer.
-    pub fn about_unsure(&self, left: usize) -> String {
+    /// Ends the sentence of what was wanted more than the payload holds: without which of the bits that are left, as these may be
+    /// filling and are not read.
+    pub fn without_unsure(&self, left: usize) -> String {
         let what = match self.unsure.min(left) {
             0 => return String::new(),
-            1 => "the last bit, a zero, may be filling and is".to_string(),
-            many => format!("the last {} bits, zeros, may be filling and are", many),
+            1 => "bit, a zero, which may be filling and is".to_string(),
+            many => format!("{} bits, zeros, which may be filling and are", many),
         };
-        format!("; {} not read: --bits says how many bits the payload has", what)
+        format!(
+            " without its last {} not read: --bits says how many bits the payload has",
+            what
+        )
     }
 
     /// The first line of text.

@@ -164,8 +164,7 @@ fn same_sheet(stream: &[u8]) -> bool {
                 numbers(&sheet, &["number", "offset"]),
                 [i64::from(refused.number), refused.place as i64]
             );
-            let bit = sheet.names().contains(&"bit").then(|| sheet.get("bit").number());
-            assert_eq!(bit, refused.bit.map(|bit| bit as i64));
+            assert_eq!(sheet.number_of("bit"), refused.bit.map(|bit| bit as i64));
             return false;
         }
     };

@@ -26,6 +26,11 @@ impl Json {
         }
     }
 
+    /// The number that a member of an object is, if it has that member.
+    pub fn number_of(&self, name: &str) -> Option<i64> {
+        self.names().contains(&name).then(|| self.get(name).number())
+    }
+
     /// The names of an object's members.
     pub fn names(&self) -> Vec<&str> {
         match self {

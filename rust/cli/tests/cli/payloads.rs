@@ -67,6 +67,7 @@ fn filling_is_never_read_as_a_number() {
             arguments
         );
         assert_eq!(json.json().get("numbers").list(), []);
+        assert_eq!(json.json().get("missing").number(), 1, "{:?}", arguments);
         let ran = avsplus(&[arguments, &["--place", "8"]].concat());
         assert_eq!((ran.status, ran.text().lines().last()), (1, Some("next place: 8")));
     }
@@ -109,24 +110,27 @@ fn what_may_be_filling_is_said() {
         (ran.status, ran.text().lines().next()),
         (1, Some("payload: 24 bits, of which the last 7 may be filling"))
     );
-    let complaint = "avsplus: PAYLOAD OUT (14): after 0 of 1 bins a bit is wanted and none is left; the last 7 bits, \
-        zeros, may be filling and are not read: --bits says how many bits the payload has\n";
+    let complaint = "avsplus: PAYLOAD OUT (14): after 0 of 1 bins, 1 more bit was wanted than the payload holds without its \
+        last 7 bits, zeros, which may be filling and are not read: --bits says how many bits the payload has\n";
     assert_eq!(ran.complaint, complaint);
+    let ran = avsplus_reading(&["bins", "-", "--count", "1"], &[0xC0]);
+    let complaint = "avsplus: PAYLOAD OUT (14): to start, 7 more bits were wanted than the payload holds without its last 6 \
+        bits, zeros, which may be filling and are not read: --bits says how many bits the payload has\n";
+    assert_eq!((ran.status, ran.complaint.as_str()), (1, complaint));
     // 1, then 01 and zeros, of which one would end the number.
     let ran = avsplus_reading(&["golomb", "-"], &[0xA0]);
     let complaint =
-        "avsplus: PAYLOAD OUT (14) at bit 1: 7 bits are left from bit 1 on; the last 5 bits, zeros, may be filling and are \
-        not read: --bits says how many bits the payload has
-";
+        "avsplus: PAYLOAD OUT (14) at bit 1: 7 bits are left, and 1 more bit was wanted than the payload holds without its last \
+        5 bits, zeros, which may be filling and are not read: --bits says how many bits the payload has\n";
     assert_eq!((ran.status, ran.complaint.as_str()), (1, complaint));
     let json = avsplus_reading(&["golomb", "-", "--json"], &[0xA0]).json();
-    let counts = ["payload_bits", "may_be_filling", "next_place", "bits_left"].map(|name| json.get(name).number());
-    assert_eq!(counts, [8, 5, 1, 7]);
+    let names = ["payload_bits", "may_be_filling", "next_place", "bits_left", "missing"];
+    assert_eq!(names.map(|name| json.get(name).number()), [8, 5, 1, 7, 1]);
     // Zeros that would be no number either.
     let ran = avsplus_reading(&["golomb", "-", "--place", "7"], &[0x80]);
     let complaint =
-        "avsplus: PAYLOAD OUT (14) at bit 7: 1 bit is left from bit 7 on, no whole number; the last bit, a zero, may be \
-        filling and is not read: --bits says how many bits the payload has\n";
+        "avsplus: PAYLOAD OUT (14) at bit 7: 1 bit is left, no whole number, and 1 more bit was wanted than the payload holds \
+        without its last bit, a zero, which may be filling and is not read: --bits says how many bits the payload has\n";
     assert_eq!((ran.status, ran.complaint.as_str()), (1, complaint));
     let json = avsplus_reading(&["golomb", "-", "--json", "--bits", "all", "--count", "2"], &[0xA0]).json();
     assert_eq!(json.get("numbers").list()[1].get("number").number(), 1);
@@ -219,33 +223,42 @@ fn numbers_within_bits_place_and_count() {
     assert_eq!((json.get("numbers").list().len(), json.get("bits_left").number()), (1, 7));
 }
 
-/// Bits that are left and are no whole number are said, with how many and from where on.
+/// Bits that are left and are no whole number are said, with how many, from where on, and how many more were wanted.
 #[test]
 fn a_cut_number_is_said() {
-    // 1, then four zeros, a 1 and two of four bits.
+    // 1, then four zeros, a 1 and two of four bits, which may be filling.
     let ran = avsplus_reading(&["golomb", "-"], &[0x84]);
     assert_eq!((ran.status, ran.text().lines().last()), (1, Some("next place: 1")));
     assert!(
-        ran.complaint
-            .starts_with("avsplus: PAYLOAD OUT (14) at bit 1: 7 bits are left from bit 1 on, no whole number"),
+        ran.complaint.starts_with(
+            "avsplus: PAYLOAD OUT (14) at bit 1: 7 bits are left, no whole number, and 4 more bits were wanted than the payload \
+            holds without its last 2 bits, zeros, which may be filling"
+        ),
         "{}",
         ran.complaint
     );
     let ran = avsplus_reading(&["golomb", "-", "--json"], &[0x84]);
     let json = ran.json();
-    assert_eq!(
-        (ran.status, json.get("place").number(), json.get("bits_left").number()),
-        (1, 1, 7)
-    );
+    let counts = ["place", "missing", "bits_left"].map(|name| json.get(name).number());
+    assert_eq!((ran.status, counts), (1, [1, 4, 7]));
     assert_eq!(json.get("numbers").list().len(), 1);
-    let ran = avsplus_reading(&["golomb", "-", "--bits", "2"], &[0x80]);
-    assert_eq!(
-        (ran.status, ran.complaint.as_str()),
+    for (bits, byte, said) in [
         (
-            1,
-            "avsplus: PAYLOAD OUT (14) at bit 1: 1 bit is left from bit 1 on, no whole number\n"
-        )
-    );
+            "all",
+            0x84,
+            "7 bits are left, and 2 more bits were wanted than the payload holds",
+        ),
+        (
+            "7",
+            0x84,
+            "6 bits are left, and 3 more bits were wanted than the payload holds",
+        ),
+        ("2", 0x80, "1 bit is left, and 1 more bit was wanted than the payload holds"),
+    ] {
+        let ran = avsplus_reading(&["golomb", "-", "--bits", bits], &[byte]);
+        let complaint = format!("avsplus: PAYLOAD OUT (14) at bit 1: {}\n", said);
+        assert_eq!((ran.status, ran.complaint), (1, complaint));
+    }
     // Whoever asked for one number has it.
     assert_eq!(avsplus_reading(&["golomb", "-", "--count", "1"], &[0x84]).status, 0);
 }
@@ -256,14 +269,12 @@ fn numbers_that_are_refused() {
     assert_eq!((ran.status, ran.text()), (1, "payload: 0 bits\nnext place: 0\n"));
     assert_eq!(
         ran.complaint,
-        "avsplus: PAYLOAD OUT (14) at bit 0: a bit is wanted, and the payload has 0 bits\n"
+        "avsplus: PAYLOAD OUT (14) at bit 0: 0 bits are left, and 1 more bit was wanted than the payload holds\n"
     );
     let ran = avsplus_reading(&["golomb", "-", "--count", "9", "--json"], &[0xFF]);
     let json = ran.json();
-    assert_eq!(
-        (ran.status, json.get("answer").text(), json.get("place").number()),
-        (1, "PAYLOAD OUT", 8)
-    );
+    let counts = ["place", "missing"].map(|name| json.get(name).number());
+    assert_eq!((ran.status, json.get("answer").text(), counts), (1, "PAYLOAD OUT", [8, 1]));
     assert_eq!(json.get("numbers").list().len(), 8);
     let ran = avsplus_reading(&["golomb", "-"], &[0x80, 0, 0, 0, 0, 1]);
     assert_eq!(
@@ -277,6 +288,30 @@ fn numbers_that_are_refused() {
         ran.complaint,
         "avsplus: VALUE (8) at bit 1: 32 zeros stand here, and no number begins with so many\n"
     );
+}
+
+/// JSON has `missing` exactly where the answer is PAYLOAD OUT, and there it is at least 1.
+#[test]
+fn missing_bits_are_a_member_of_payload_out_alone() {
+    let too_long = [0; 65_537];
+    let asked: [(&[&str], &[u8], Option<i64>); 9] = [
+        (&["golomb", "-", "--bits", "32"], &[0, 0, 0, 1], Some(31)),
+        (&["golomb", "-", "--bits", "31", "--signed"], &[0, 0, 0, 1], Some(1)),
+        (&["golomb", "-"], &[0xFF], None),
+        (&["golomb", "-", "--bits", "32"], &[0; 4], None),
+        (&["golomb", "-"], &too_long, None),
+        (&["bins", "-", "--count", "1"], &[], Some(9)),
+        (&["bins", "-", "--count", "1", "--bits", "16"], &[0x80, 0x00], Some(1)),
+        (&["bins", "-", "--count", "1", "--bits", "24"], &[0x80, 0x40, 0x00], None),
+        (&["bins", "-", "--count", "1"], &too_long, None),
+    ];
+    for (arguments, payload, missing) in asked {
+        let json = avsplus_reading(&[arguments, &["--json"]].concat(), payload).json();
+        assert_eq!(json.number_of("missing"), missing, "{:?}", arguments);
+        assert_eq!(json.get("number").number() == 14, missing.is_some());
+    }
+    let sheet = avsplus_reading(&["file", "-", "--json"], &[0, 0, 1]).json();
+    assert_eq!(sheet.number_of("missing"), None);
 }
 
 #[test]
@@ -314,7 +349,7 @@ fn bins_that_are_refused() {
     assert!(ran.text().starts_with("payload: 16 bits\nbins: \nstate: "));
     assert_eq!(
         ran.complaint,
-        "avsplus: PAYLOAD OUT (14): after 0 of 1 bins a bit is wanted and none is left\n"
+        "avsplus: PAYLOAD OUT (14): after 0 of 1 bins, 1 more bit was wanted than the payload holds\n"
     );
     let json = avsplus_reading(&["bins", "-", "--count", "1", "--json", "--bits=16"], &[0x80, 0x00]).json();
     assert_eq!(json.get("answer").text(), "PAYLOAD OUT");
@@ -327,9 +362,9 @@ fn bins_that_are_refused() {
         (1, 14, 8)
     );
     assert_eq!((json.get("state"), json.get("context")), (&Json::Null, &Json::Null));
-    let ran = avsplus_reading(&["bins", "-", "--count", "4", "--bits", "8"], &[0x80, 0x00]);
-    assert_eq!((ran.status, ran.text()), (1, "payload: 8 bits\n"));
-    let complaint = "avsplus: PAYLOAD OUT (14): to start a bit is wanted and none is left\n";
+    let ran = avsplus_reading(&["bins", "-", "--count", "4", "--bits", "6"], &[0x80, 0x00]);
+    assert_eq!((ran.status, ran.text()), (1, "payload: 6 bits\n"));
+    let complaint = "avsplus: PAYLOAD OUT (14): to start, 3 more bits were wanted than the payload holds\n";
     assert_eq!(ran.complaint, complaint);
 }
 
@@ -347,9 +382,11 @@ fn bits_and_places_that_are_not_there() {
         assert_eq!(ran.status, status, "{}", place);
         let json = avsplus_reading(&["golomb", "-", "--json", "--count", "0", "--place", place], &[0xB5, 0xB5]).json();
         assert_eq!(json.get("number").number(), if status == 0 { 0 } else { 14 });
+        assert_eq!(json.number_of("missing"), if status == 0 { None } else { Some(1) });
     }
     let ran = avsplus_reading(&["golomb", "-", "--place", "17"], &[0xB5, 0xB5]);
-    let complaint = "avsplus: PAYLOAD OUT (14) at bit 17: bit 17 is past the payload's end: it has 16 bits\n";
+    let complaint = "avsplus: PAYLOAD OUT (14) at bit 17: a place past the end counts as the end, bit 16: 0 bits are left, \
+        and 1 more bit was wanted than the payload holds\n";
     assert_eq!(
         (ran.text(), ran.complaint.as_str()),
         ("payload: 16 bits\nnext place: 17\n", complaint)

@@ -21,7 +21,7 @@ fn help_and_version() {
     let ran = avsplus(&["--version"]);
     assert_eq!(
         (ran.status, ran.text()),
-        (0, concat!("avsplus ", env!("CARGO_PKG_VERSION"), ", library interface 2\n"))
+        (0, concat!("avsplus ", env!("CARGO_PKG_VERSION"), ", library interface 3\n"))
     );
 }
 
@@ -39,7 +39,7 @@ fn help_is_a_command_too() {
         (0, 29)
     );
     for line in [
-        "  14  PAYLOAD OUT                a bit is wanted and none is left",
+        "  14  PAYLOAD OUT                more bits are wanted than the payload holds",
         "  25  VALUE of rate              the frame rate code is not 1 to 8",
         "  30  VALUE of copyright number  the owner is 0 and the number is not",
     ] {
