@@ -1,7 +1,7 @@
 //! Section "Bins": the arithmetic decoder, state in, state out.
 
 use crate::bits::Payload;
-use crate::refusals::BAD_STATE;
+use crate::refusals::{unread, Unread, BAD_STATE};
 
 /// rS, rT, valueS, valueT and the bit place.
 #[derive(Clone, Copy, Debug, PartialEq, Eq)]
@@ -49,30 +49,27 @@ fn good_state(s: &State, count: u64) -> bool {
 }
 
 /// TOO LONG, then BAD STATE.
-fn open<'a>(bytes: &'a [u8], count: u64, s: &State, contexts: &[Context]) -> Result<Payload<'a>, u32> {
+fn open<'a>(bytes: &'a [u8], count: u64, s: &State, contexts: &[Context]) -> Result<Payload<'a>, Unread> {
     let payload = Payload::open(bytes, count, s.place)?;
     if !good_state(s, payload.count) || !contexts.iter().all(good_context) {
-        return Err(BAD_STATE);
+        return Err(unread(BAD_STATE));
     }
     Ok(payload)
 }
 
 /// Doubles valueT until it is at least 256; answers valueS and valueT mod 256.
-fn normalise(payload: &mut Payload, mut value: u64) -> Result<(u64, u64), u32> {
+fn normalise(payload: &mut Payload, mut value: u64) -> Result<(u64, u64), Unread> {
     let mut doublings = 0;
     while value < 256 {
-        value = 2 * value + payload.next_bit()?;
+        value = 2 * value + payload.read(1)?;
         doublings += 1;
     }
     Ok((doublings, value % 256))
 }
 
-pub fn start(bytes: &[u8], count: u64) -> Result<State, u32> {
+pub fn start(bytes: &[u8], count: u64) -> Result<State, Unread> {
     let mut payload = Payload::open(bytes, count, 0)?;
-    let mut value = 0;
-    for _ in 0..9 {
-        value = 2 * value + payload.next_bit()?;
-    }
+    let value = payload.read(9)?;
     let (vs, vt) = normalise(&mut payload, value)?;
     Ok(State {
         rs: 0,
@@ -84,7 +81,7 @@ pub fn start(bytes: &[u8], count: u64) -> Result<State, u32> {
 }
 
 /// One bin from a state within its ranges.
-fn bin(payload: &mut Payload, state: State, predicted: &Prediction) -> Result<(u64, State), u32> {
+fn bin(payload: &mut Payload, state: State, predicted: &Prediction) -> Result<(u64, State), Unread> {
     let q = predicted.lg / 4;
     let borrow = state.rt < q; // the document's second case
     let (s, t) = if borrow {
@@ -100,11 +97,11 @@ fn bin(payload: &mut Payload, state: State, predicted: &Prediction) -> Result<(u
     let mut value = if s == state.vs {
         state.vt - t
     } else {
-        256 + 2 * state.vt + payload.next_bit()? - t
+        256 + 2 * state.vt + payload.read(1)? - t
     };
     while range < 256 {
         range *= 2;
-        value = 2 * value + payload.next_bit()?;
+        value = 2 * value + payload.read(1)?;
     }
     let (vs, vt) = normalise(payload, value)?;
     let after = State {
@@ -145,7 +142,7 @@ fn update(c: Context, bin: u64) -> Context {
 }
 
 /// One bin with one context.
-pub fn decode(bytes: &[u8], count: u64, s: State, c: Context) -> Result<(u32, State, Context), u32> {
+pub fn decode(bytes: &[u8], count: u64, s: State, c: Context) -> Result<(u32, State, Context), Unread> {
     let mut payload = open(bytes, count, &s, &[c])?;
     let (value, after) = bin(&mut payload, s, &Prediction { mps: c.mps, lg: c.lg })?;
     Ok((value as u32, after, update(c, value)))
@@ -167,23 +164,29 @@ fn joint(a: &Context, b: &Context) -> Prediction {
 }
 
 /// One bin with two contexts; both are then updated.
-pub fn decode_pair(bytes: &[u8], count: u64, s: State, a: Context, b: Context) -> Result<(u32, State, Context, Context), u32> {
+pub fn decode_pair(
+    bytes: &[u8],
+    count: u64,
+    s: State,
+    a: Context,
+    b: Context,
+) -> Result<(u32, State, Context, Context), Unread> {
     let mut payload = open(bytes, count, &s, &[a, b])?;
     let (value, after) = bin(&mut payload, s, &joint(&a, &b))?;
     Ok((value as u32, after, update(a, value), update(b, value)))
 }
 
 /// One bin with a fixed prediction and no context.
-fn fixed(bytes: &[u8], count: u64, s: State, predicted: &Prediction) -> Result<(u32, State), u32> {
+fn fixed(bytes: &[u8], count: u64, s: State, predicted: &Prediction) -> Result<(u32, State), Unread> {
     let mut payload = open(bytes, count, &s, &[])?;
     let (value, after) = bin(&mut payload, s, predicted)?;
     Ok((value as u32, after))
 }
 
-pub fn bypass(bytes: &[u8], count: u64, s: State) -> Result<(u32, State), u32> {
+pub fn bypass(bytes: &[u8], count: u64, s: State) -> Result<(u32, State), Unread> {
     fixed(bytes, count, s, &BYPASS)
 }
 
-pub fn stuffing(bytes: &[u8], count: u64, s: State) -> Result<(u32, State), u32> {
+pub fn stuffing(bytes: &[u8], count: u64, s: State) -> Result<(u32, State), Unread> {
     fixed(bytes, count, s, &STUFFING)
 }

@@ -1,6 +1,7 @@
 //! Single bits, and the two ways the document reads them: fields of a body, and bits of a payload.
 
-use crate::refusals::{with_bit, without_bit, Fault, MARKER, PAYLOAD_LIMIT, PAYLOAD_OUT, SHORT, STUFFING, TOO_LONG};
+use crate::refusals::{payload_out, unread, with_bit, without_bit, Fault, Unread};
+use crate::refusals::{MARKER, PAYLOAD_LIMIT, SHORT, STUFFING, TOO_LONG};
 
 /// Bit `i` of the bytes, most significant first.
 pub(crate) fn bit(bytes: &[u8], i: u64) -> Option<bool> {
@@ -75,9 +76,9 @@ pub(crate) struct Payload<'a> {
 
 impl<'a> Payload<'a> {
     /// TOO LONG looks at the bytes lent, whatever the bit count.
-    pub(crate) fn open(bytes: &'a [u8], count: u64, place: u64) -> Result<Self, u32> {
+    pub(crate) fn open(bytes: &'a [u8], count: u64, place: u64) -> Result<Self, Unread> {
         if bytes.len() > PAYLOAD_LIMIT {
-            return Err(TOO_LONG);
+            return Err(unread(TOO_LONG));
         }
         let held = 8 * bytes.len() as u64;
         Ok(Payload {
@@ -87,13 +88,58 @@ impl<'a> Payload<'a> {
         })
     }
 
-    /// The next bit; a missing bit is never taken for a zero.
-    pub(crate) fn next_bit(&mut self) -> Result<u64, u32> {
-        if self.place >= self.count {
-            return Err(PAYLOAD_OUT);
+    /// The next `width` bits in one read, as a number: all of them or none, and a missing bit is never taken for a zero.
+    pub(crate) fn read(&mut self, width: u32) -> Result<u64, Unread> {
+        // Of a place past the end none are there, as at the end.
+        let there = (self.place..self.count).take(width as usize);
+        let missing = width - there.clone().count() as u32;
+        if missing > 0 {
+            return Err(payload_out(missing));
         }
-        let one = bit(self.bytes, self.place).ok_or(PAYLOAD_OUT)?;
-        self.place += 1;
-        Ok(u64::from(one))
+        let bits = there.filter_map(|i| bit(self.bytes, i));
+        let value = bits.fold(0, |value, one| 2 * value + u64::from(one));
+        self.place += u64::from(width);
+        Ok(value)
+    }
+}
+
+#[cfg(test)]
+mod tests {
+    use super::*;
+
+    const BYTES: [u8; 5] = [0x9A, 0x3C, 0x5D, 0xE7, 0x01];
+
+    /// Every read of up to 32 bits of every payload of up to 40 bits, from every place up to some past the end.
+    #[test]
+    fn a_read_takes_all_its_bits_or_none() {
+        let all = BYTES.iter().fold(0, |value, &byte| value << 8 | u64::from(byte));
+        for (count, place) in (0..=42).flat_map(|count| (0..=50).map(move |place| (count, place))) {
+            let left = count.min(40_u64).saturating_sub(place);
+            for width in 0..=32 {
+                let mut payload = Payload::open(&BYTES, count, place).unwrap();
+                let read = payload.read(width);
+                let wanted = u64::from(width);
+                if wanted <= left {
+                    let value = (all >> (40 - place.min(40) - wanted)) & ((1 << wanted) - 1);
+                    assert_eq!((read, payload.place), (Ok(value), place + wanted));
+                } else {
+                    let missing = Some((wanted - left) as u32);
+                    assert_eq!((read, payload.place), (Err(Unread { number: 14, missing }), place));
+                }
+            }
+        }
+    }
+
+    /// The count's own limits, and the place's.
+    #[test]
+    fn far_off_places_are_the_end() {
+        for (count, place) in [(u64::MAX, u64::MAX), (0, u64::MAX), (u64::MAX, 41), (39, 1 << 33)] {
+            let mut payload = Payload::open(&BYTES, count, place).unwrap();
+            assert_eq!(payload.read(0), Ok(0));
+            for width in 1..=32 {
+                assert_eq!(payload.read(width), Err(payload_out(width)));
+            }
+            assert_eq!(payload.place, place);
+        }
     }
 }

@@ -18,6 +18,6 @@ pub use layouts::{
     display_ratio, extension, frame_rate, header, macroblock_columns, macroblock_rows, Copyright, Display, Extension, Header,
 };
 pub use payload::{golomb, signed_golomb, unescape};
-pub use refusals::{name, Fault, Refused, NAMES};
+pub use refusals::{name, Fault, Refused, Unread, NAMES};
 pub use rows::{row_body, row_exists};
 pub use units::{kind, next_start_code};

@@ -1,7 +1,7 @@
 //! Section "Escape removal" and the Exp-Golomb numbers.
 
 use crate::bits::{bit, Payload};
-use crate::refusals::{FULL, PAYLOAD_LIMIT, TOO_LONG, VALUE};
+use crate::refusals::{unread, Unread, FULL, PAYLOAD_LIMIT, TOO_LONG, VALUE};
 
 /// How many bits of raw byte `i` are kept: six for 02 after two raw 00, else eight.
 fn kept_bits(payload: &[u8], i: usize) -> u64 {
@@ -46,26 +46,23 @@ pub fn unescape(payload: &[u8], output: &mut [u8]) -> Result<u64, u32> {
 }
 
 /// An Exp-Golomb number from bit `place` on, and the place after it.
-pub fn golomb(bytes: &[u8], count: u64, place: u64) -> Result<(u32, u64), u32> {
+pub fn golomb(bytes: &[u8], count: u64, place: u64) -> Result<(u32, u64), Unread> {
     let mut payload = Payload::open(bytes, count, place)?;
     let mut zeros = 0;
-    while payload.next_bit()? == 0 {
+    while payload.read(1)? == 0 {
         zeros += 1;
         // The 32nd zero settles it, whatever follows.
         if zeros == 32 {
-            return Err(VALUE);
+            return Err(unread(VALUE));
         }
     }
-    let mut value = 0;
-    for _ in 0..zeros {
-        value = 2 * value + payload.next_bit()?;
-    }
-    let number = (1_u64 << zeros) - 1 + value; // at most 2^32 - 2
+    let b = payload.read(zeros)?;
+    let number = (1_u64 << zeros) - 1 + b; // at most 2^32 - 2
     Ok((number as u32, payload.place))
 }
 
 /// A signed Exp-Golomb number from bit `place` on, and the place after it.
-pub fn signed_golomb(bytes: &[u8], count: u64, place: u64) -> Result<(i32, u64), u32> {
+pub fn signed_golomb(bytes: &[u8], count: u64, place: u64) -> Result<(i32, u64), Unread> {
     let (number, after) = golomb(bytes, count, place)?;
     let n = i64::from(number);
     let signed = if n % 2 == 1 { (n + 1) / 2 } else { -(n / 2) };

@@ -1,4 +1,5 @@
-//! Section "Refusal numbers", with the numbers of document 02, E1, and the limits of section one.
+//! Section "Refusal numbers", with the numbers of document 02, E1, what refusals carry by E1 and E13, and the limits of
+//! section one.
 
 /// Why a body is refused: the papers' number, and for MARKER and the values of fields the bit of the body, counted from 0.
 #[derive(Clone, Copy, Debug, PartialEq, Eq)]
@@ -13,6 +14,14 @@ pub struct Refused {
     pub number: u32,
     pub place: u64,
     pub bit: Option<u64>,
+}
+
+/// Why an Exp-Golomb number, a start or a bin is refused: the papers' number, and for PAYLOAD OUT how many more bits the read
+/// that failed wanted than were left.
+#[derive(Clone, Copy, Debug, PartialEq, Eq)]
+pub struct Unread {
+    pub number: u32,
+    pub missing: Option<u32>,
 }
 
 impl Fault {
@@ -31,6 +40,20 @@ pub(crate) fn without_bit(number: u32) -> Fault {
 /// The fault of a number that carries a bit.
 pub(crate) fn with_bit(number: u32, bit: u64) -> Fault {
     Fault { number, bit: Some(bit) }
+}
+
+/// PAYLOAD OUT, with the bits that are missing.
+pub(crate) fn payload_out(missing: u32) -> Unread {
+    let missing = Some(missing);
+    Unread {
+        number: PAYLOAD_OUT,
+        missing,
+    }
+}
+
+/// Any other refusal of a payload: no bit is missing.
+pub(crate) fn unread(number: u32) -> Unread {
+    Unread { number, missing: None }
 }
 
 /// The numbers of the answers, rising, with their names; other numbers are not used.

@@ -19,15 +19,26 @@ fn context(mps: u64, lg: u64, cycno: u64) -> Context {
     Context { mps, lg, cycno }
 }
 
+/// PAYLOAD OUT with so many bits missing.
+fn out(missing: u32) -> Unread {
+    let missing = Some(missing);
+    Unread { number: 14, missing }
+}
+
+/// A refusal for which no bit is missing.
+fn refused(number: u32) -> Unread {
+    Unread { number, missing: None }
+}
+
 #[test]
 fn starting() {
     assert_eq!(start(&[0xFF, 0x80], 9), Ok(state(0, 255, 0, 255, 9)));
-    assert_eq!(start(&[0xFF, 0x80], 8), Err(14));
-    assert_eq!(start(&[0, 0x40], 18), Err(14));
+    assert_eq!(start(&[0xFF, 0x80], 8), Err(out(1)));
+    assert_eq!(start(&[0, 0x40], 18), Err(out(1)));
     assert_eq!(start(&[0, 0x40, 0], u64::MAX), Ok(state(0, 255, 9, 0, 18)));
-    assert_eq!(start(&vec![0; 65_537], 0), Err(13));
-    assert_eq!(start(&vec![0; 65_536], u64::MAX), Err(14));
-    assert_eq!(start(&[], u64::MAX), Err(14));
+    assert_eq!(start(&vec![0; 65_537], 0), Err(refused(13)));
+    assert_eq!(start(&vec![0; 65_536], u64::MAX), Err(out(1)));
+    assert_eq!(start(&[], u64::MAX), Err(out(9)));
 }
 
 #[test]
@@ -46,14 +57,14 @@ fn bad_states() {
         State { place: u64::MAX, ..GOOD },
     ];
     for s in spoilt {
-        assert_eq!(decode(&PAYLOAD, u64::MAX, s, fresh()), Err(15));
-        assert_eq!(decode_pair(&PAYLOAD, u64::MAX, s, fresh(), fresh()), Err(15));
-        assert_eq!(bypass(&PAYLOAD, u64::MAX, s), Err(15));
-        assert_eq!(stuffing(&PAYLOAD, u64::MAX, s), Err(15));
-        assert_eq!(stuffing(&vec![0; 65_537], u64::MAX, s), Err(13));
+        assert_eq!(decode(&PAYLOAD, u64::MAX, s, fresh()), Err(refused(15)));
+        assert_eq!(decode_pair(&PAYLOAD, u64::MAX, s, fresh(), fresh()), Err(refused(15)));
+        assert_eq!(bypass(&PAYLOAD, u64::MAX, s), Err(refused(15)));
+        assert_eq!(stuffing(&PAYLOAD, u64::MAX, s), Err(refused(15)));
+        assert_eq!(stuffing(&vec![0; 65_537], u64::MAX, s), Err(refused(13)));
     }
     // The place is held against the bit count where that is less than the bytes hold.
-    assert_eq!(bypass(&PAYLOAD, 11, GOOD), Err(15));
+    assert_eq!(bypass(&PAYLOAD, 11, GOOD), Err(refused(15)));
     assert!(bypass(&PAYLOAD, 12, GOOD).is_ok());
 }
 
@@ -71,9 +82,9 @@ fn bad_contexts() {
         },
     ];
     for c in spoilt {
-        assert_eq!(decode(&PAYLOAD, 32, GOOD, c), Err(15));
-        assert_eq!(decode_pair(&PAYLOAD, 32, GOOD, c, fresh()), Err(15));
-        assert_eq!(decode_pair(&PAYLOAD, 32, GOOD, fresh(), c), Err(15));
+        assert_eq!(decode(&PAYLOAD, 32, GOOD, c), Err(refused(15)));
+        assert_eq!(decode_pair(&PAYLOAD, 32, GOOD, c, fresh()), Err(refused(15)));
+        assert_eq!(decode_pair(&PAYLOAD, 32, GOOD, fresh(), c), Err(refused(15)));
     }
 }
 

@@ -468,6 +468,7 @@ fn escape_bits() {
 
 #[test]
 fn golomb_limits() {
+    let refused = |number, missing| Err(Unread { number, missing });
     let most = [0, 0, 0, 1, 0xFF, 0xFF, 0xFF, 0xFE];
     assert_eq!(golomb(&most, 63, 0), Ok((u32::MAX - 1, 63)));
     assert_eq!(signed_golomb(&most, 63, 0), Ok((-i32::MAX, 63)));
@@ -475,14 +476,14 @@ fn golomb_limits() {
         signed_golomb(&[0, 0, 0, 1, 0xFF, 0xFF, 0xFF, 0xFC], 63, 0),
         Ok((i32::MAX, 63))
     );
-    assert_eq!(golomb(&most, 62, 0), Err(14));
-    assert_eq!(golomb(&[0; 4], 32, 0), Err(8));
-    assert_eq!(golomb(&[0; 4], 31, 0), Err(14));
-    assert_eq!(golomb(&[0; 4], u64::MAX, 1), Err(14));
+    assert_eq!(golomb(&most, 62, 0), refused(14, Some(1)));
+    assert_eq!(golomb(&[0; 4], 32, 0), refused(8, None));
+    assert_eq!(golomb(&[0; 4], 31, 0), refused(14, Some(1)));
+    assert_eq!(golomb(&[0; 4], u64::MAX, 1), refused(14, Some(1)));
     assert_eq!(golomb(&[0xFF], u64::MAX, 7), Ok((0, 8)));
-    assert_eq!(golomb(&[0xFF], u64::MAX, 8), Err(14));
-    assert_eq!(golomb(&[0xFF], u64::MAX, u64::MAX), Err(14));
-    assert_eq!(golomb(&[0xFF], 0, 0), Err(14));
-    assert_eq!(golomb(&vec![0xFF; 65_537], 1, 0), Err(13));
+    assert_eq!(golomb(&[0xFF], u64::MAX, 8), refused(14, Some(1)));
+    assert_eq!(golomb(&[0xFF], u64::MAX, u64::MAX), refused(14, Some(1)));
+    assert_eq!(golomb(&[0xFF], 0, 0), refused(14, Some(1)));
+    assert_eq!(golomb(&vec![0xFF; 65_537], 1, 0), refused(13, None));
     assert_eq!(golomb(&vec![0xFF; 65_536], u64::MAX, 524_287), Ok((0, 524_288)));
 }

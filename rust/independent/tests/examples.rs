@@ -168,5 +168,10 @@ fn example_12() {
             place: 9
         }
     );
-    assert_eq!(decode(&payload, 16, s, fresh()), Err(14));
+    // Document 02, E13: one bit is missing, since bins want bit by bit.
+    let out = Unread {
+        number: 14,
+        missing: Some(1),
+    };
+    assert_eq!(decode(&payload, 16, s, fresh()), Err(out));
 }
