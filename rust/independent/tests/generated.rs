@@ -1,6 +1,6 @@
 //! The generators, measured with this package's own decoder.
 
-use std::collections::BTreeMap;
+use std::collections::{BTreeMap, BTreeSet};
 
 use independent::generate::*;
 use independent::*;
@@ -238,6 +238,48 @@ fn payload_refusals_are_met() {
     println!("escape removal {escapes:?}\nExp-Golomb {numbers:?}");
     assert!(escapes[0] >= 15_000 && escapes[12] >= 500 && escapes[13] >= 5);
     assert!(numbers[0] >= 5000 && numbers[8] >= 100 && numbers[13] >= 5 && numbers[14] >= 500);
+}
+
+/// How many bits are missing.
+fn missing<T>(answer: Result<T, Unread>) -> Option<u32> {
+    answer.err().and_then(|unread| unread.missing)
+}
+
+/// Numbers cut at each of their bits, by the bytes and by the bit count.
+#[test]
+fn cut_numbers_meet_every_count() {
+    let mut all = BTreeSet::new();
+    for zeros in 0..=33 {
+        let mut met = BTreeSet::new();
+        let whole = 2 * zeros + 1;
+        let (longer, place) = cut_number(zeros, whole + 9);
+        for kept in 0..=whole {
+            let (bytes, from) = cut_number(zeros, kept);
+            assert_eq!(8 * bytes.len() as u64, from + kept);
+            let by_bytes = golomb(&bytes, u64::MAX, from);
+            let by_count = golomb(&longer, place + kept, place);
+            assert_eq!(missing(by_bytes), missing(by_count), "{zeros} zeros, {kept} kept");
+            assert_eq!(by_bytes.is_ok(), kept == whole && zeros < 32);
+            met.extend(missing(by_bytes));
+        }
+        // Each bit of b is missing in turn; of 32 zeros no b is read.
+        let most = if zeros < 32 { zeros.max(1) as u32 } else { 1 };
+        assert!(met.iter().copied().eq(1..=most), "{zeros} zeros: {met:?}");
+        all.extend(met);
+    }
+    assert!(all.into_iter().eq(MISSING_OF_NUMBERS));
+}
+
+#[test]
+fn generated_payloads_meet_every_count_of_a_start() {
+    let mut random = Random::new(13);
+    let mut met = BTreeSet::new();
+    for _ in 0..20_000 {
+        let bytes = bins_payload(&mut random);
+        let count = 8 * bytes.len() as u64;
+        met.extend(missing(start(&bytes, count.saturating_sub(random.below(9)))));
+    }
+    assert!(met.into_iter().eq(MISSING_OF_STARTS));
 }
 
 #[test]

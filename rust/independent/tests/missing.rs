@@ -1,5 +1,6 @@
 //! Document 02, E13, "How many bits were missing?": what PAYLOAD OUT carries of Exp-Golomb numbers, of starts and of bins.
 
+use independent::generate::states_that_want;
 use independent::*;
 
 /// PAYLOAD OUT with so many bits missing.
@@ -171,27 +172,12 @@ fn each_kind(bytes: &[u8], count: u64, s: State, c: Context) -> [Result<u64, Unr
     ]
 }
 
-/// States in which the other bin than the predicted one comes: with a borrowed bit and without, and values small and great.
-fn states() -> Vec<State> {
-    let borrowing = [0, 100, 255].map(|vt| (3, 0, 3, vt));
-    let others = [(2, 0, 3, 255), (3, 255, 3, 255), (3, 255, 3, 254), (0, 255, 0, 0)];
-    let all = borrowing.into_iter().chain(others);
-    all.map(|(rs, rt, vs, vt)| State {
-        rs,
-        rt,
-        vs,
-        vt,
-        place: 5,
-    })
-    .collect()
-}
-
 /// Of each bit that a bin wants, one is missing where the payload ends before it.
 #[test]
 fn bins_want_bit_by_bit() {
     let bytes = packed(&format!("11111{}1{}", "0".repeat(30), "0".repeat(28)));
     let mut most = [0; 4];
-    for (s, lg) in states().into_iter().flat_map(|s| [(s, 4), (s, 300), (s, 1023)]) {
+    for (s, lg) in states_that_want(5).into_iter().flat_map(|s| [(s, 4), (s, 300), (s, 1023)]) {
         let c = Context { lg, ..fresh() };
         let whole = each_kind(&bytes, u64::MAX, s, c);
         for count in 5..64 {
@@ -210,9 +196,11 @@ fn bins_want_bit_by_bit() {
 /// The bytes end where the bits do, and the count says more.
 #[test]
 fn bins_cut_by_the_bytes() {
-    for (bytes, s) in (1..4).flat_map(|length| states().into_iter().map(move |s| (vec![0; length], s))) {
-        let held = 8 * bytes.len() as u64;
-        let s = State { place: held, ..s };
+    for (held, s) in [8, 16, 24]
+        .into_iter()
+        .flat_map(|held| states_that_want(held).into_iter().map(move |s| (held, s)))
+    {
+        let bytes = vec![0; held as usize / 8];
         // A bin that is the predicted one wants no bit.
         let wants_none = each_kind(&[0; 9], u64::MAX, s, fresh()).map(|after| after == Ok(held));
         let expected = wants_none.map(|none| if none { Ok(held) } else { Err(out(1)) });
@@ -229,7 +217,7 @@ fn other_refusals_carry_none() {
     both_refused(&long, 0, 0, refused(13));
     both_refused(&long, 0, u64::MAX, refused(13));
     assert_eq!(start(&long, 0), Err(refused(13)));
-    for s in states() {
+    for s in states_that_want(5) {
         assert_eq!(each_kind(&long, 0, s, fresh()), [Err(refused(13)); 4]);
         assert_eq!(each_kind(&[], 0, s, fresh()), [Err(refused(15)); 4]);
     }

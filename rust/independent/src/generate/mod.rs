@@ -7,10 +7,12 @@ mod payloads;
 mod random;
 mod recording;
 
+use std::ops::RangeInclusive;
+
 pub use bodies::{extension_body, header_body};
 pub use damage::damaged;
 pub use fields::{judged_bodies, streams_with, Body};
-pub use payloads::{bins_payload, context, payload, state};
+pub use payloads::{bins_payload, context, cut_number, payload, state, states_that_want};
 pub use random::Random;
 pub use recording::stream;
 
@@ -38,3 +40,10 @@ pub const BITS: [(u32, u64); 21] = [
     (31, 0),
     (32, 0),
 ];
+
+/// How many bits can be missing of an Exp-Golomb number (document 02, E13): what inputs have to meet, as below.
+pub const MISSING_OF_NUMBERS: RangeInclusive<u32> = 1..=31;
+/// How many of a start.
+pub const MISSING_OF_STARTS: RangeInclusive<u32> = 1..=9;
+/// How many of a bin.
+pub const MISSING_OF_BINS: RangeInclusive<u32> = 1..=1;

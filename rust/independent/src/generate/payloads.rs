@@ -29,6 +29,19 @@ pub fn payload(random: &mut Random) -> Vec<u8> {
     made
 }
 
+/// Bytes that end with the first `kept` bits of an Exp-Golomb number of so many zeros, and the place where it begins. Where
+/// more are kept than it has, other bits follow it.
+pub fn cut_number(zeros: u64, kept: u64) -> (Vec<u8>, u64) {
+    let place = (8 - kept % 8) % 8;
+    let first_one = place + zeros;
+    let is_one = |&i: &u64| i < place || i == first_one || (i > first_one && i % 3 != 0);
+    let mut bytes = vec![0; ((place + kept) / 8) as usize];
+    for i in (0..place + kept).filter(is_one) {
+        bytes[(i / 8) as usize] |= 0x80 >> (i % 8);
+    }
+    (bytes, place)
+}
+
 /// A payload for bins: any bits, or long runs of zeros or ones; rarely over the limit.
 pub fn bins_payload(random: &mut Random) -> Vec<u8> {
     let length = match random.below(400) {
@@ -114,6 +127,15 @@ pub fn state(random: &mut Random, bits: u64) -> State {
         _ => made.place = over(random, bits),
     }
     made
+}
+
+/// States at a place from which other bins than the predicted one come, and these want bits: the borrowed one, those that
+/// double the range, and those that bring valueT to 256.
+pub fn states_that_want(place: u64) -> Vec<State> {
+    let borrowing = [(3, 0, 3, 0), (3, 0, 3, 100), (3, 0, 3, 255), (2, 0, 3, 255)];
+    let others = [(3, 255, 3, 255), (3, 255, 3, 254), (0, 255, 0, 0)];
+    let all = borrowing.into_iter().chain(others);
+    all.map(|(rs, rt, vs, vt)| State { rs, rt, vs, vt, place }).collect()
 }
 
 /// A context; once in eight outside its ranges in one field.
