@@ -1,9 +1,9 @@
 //! Bins: runs from a start on, and single steps from any state.
 
 use avsplus_sys::{Context, State, AVSPLUS_DONE, AVSPLUS_LONGEST_PAYLOAD};
-use independent::generate::{bins_payload, context, state, Random};
+use independent::generate::{bins_payload, context, state, states_that_want, Random};
 
-use crate::comparison::{alone, Comparison};
+use crate::comparison::{alone, Comparison, Reading};
 use crate::decoder::{Decoder, PlainBinOf};
 use crate::inputs::bit_count;
 use crate::reference::{to_context, to_state};
@@ -23,6 +23,16 @@ struct Run<'a> {
     bytes: &'a [u8],
     bits: usize,
     state: State,
+}
+
+impl Run<'_> {
+    /// What a bin is read with.
+    fn reading(&self) -> Reading {
+        Reading {
+            bits: self.bits,
+            place: self.state.place,
+        }
+    }
 }
 
 /// A way to a bin.
@@ -74,8 +84,9 @@ fn way(random: &mut Random, mix: u64, contexts: usize) -> Way {
 
 fn start(comparison: &mut Comparison, run: &mut Run) -> u32 {
     let Run { bytes, bits, state } = *run;
+    let reading = Reading { bits, place: 0 };
     let with = || format!("{} bits, {:?}", bits, state);
-    let started = comparison.ask(Question::Start, &with, |decoder| (decoder.start)(bytes, bits, state));
+    let started = comparison.ask_of_bits(Question::Start, reading, &with, |decoder| (decoder.start)(bytes, bits, state));
     run.state = started.state;
     started.status
 }
@@ -100,7 +111,7 @@ fn one(comparison: &mut Comparison, run: &mut Run, context: &mut Context) -> u32
     let Run { bytes, bits, state } = *run;
     let before = *context;
     let with = || format!("{} bits, {:?}, {:?}", bits, state, before);
-    let bin = comparison.ask(Question::Decode, &with, |decoder| {
+    let bin = comparison.ask_of_bits(Question::Decode, run.reading(), &with, |decoder| {
         (decoder.decode)(bytes, bits, state, before)
     });
     run.state = bin.state;
@@ -112,7 +123,7 @@ fn pair(comparison: &mut Comparison, run: &mut Run, contexts: &mut [Context; 2])
     let Run { bytes, bits, state } = *run;
     let [first, second] = *contexts;
     let with = || format!("{} bits, {:?}, {:?}, {:?}", bits, state, first, second);
-    let bin = comparison.ask(Question::DecodePair, &with, |decoder| {
+    let bin = comparison.ask_of_bits(Question::DecodePair, run.reading(), &with, |decoder| {
         (decoder.decode_pair)(bytes, bits, state, first, second)
     });
     run.state = bin.state;
@@ -123,7 +134,7 @@ fn pair(comparison: &mut Comparison, run: &mut Run, contexts: &mut [Context; 2])
 fn plain(comparison: &mut Comparison, run: &mut Run, question: Question, of: fn(&Decoder) -> PlainBinOf) -> u32 {
     let Run { bytes, bits, state } = *run;
     let with = || format!("{} bits, {:?}", bits, state);
-    let bin = comparison.ask(question, &with, |decoder| of(decoder)(bytes, bits, state));
+    let bin = comparison.ask_of_bits(question, run.reading(), &with, |decoder| of(decoder)(bytes, bits, state));
     run.state = bin.state;
     bin.status
 }
@@ -143,10 +154,54 @@ pub(crate) fn single_steps(comparison: &mut Comparison, random: &mut Random, cou
 
 /// One step of each kind from the same state, and a start.
 fn each_step(comparison: &mut Comparison, from: &Run, contexts: [Context; 2]) {
+    each_bin(comparison, from, contexts);
+    start(comparison, &mut from.clone());
+}
+
+fn each_bin(comparison: &mut Comparison, from: &Run, contexts: [Context; 2]) {
     for way in [Way::One(0), Way::Pair(0, 1), Way::Bypass, Way::Stuffing] {
         step(comparison, &mut from.clone(), &mut contexts.clone(), way);
     }
-    start(comparison, &mut from.clone());
+}
+
+/// Bytes of a payload that is cut, and the most bits left to a bin: more than it wants where ones are among them.
+const CUT_BYTES: [u8; 3] = [0, 0x55, 0xFF];
+const MOST_LEFT: usize = 20;
+
+/// Payloads that end within the bits that a start or a bin wants, by the bit count and by the bytes. Both wrappers are asked
+/// too.
+pub(crate) fn cut(comparison: &mut Comparison) {
+    for (length, byte) in (0..=4).flat_map(|length| CUT_BYTES.map(|byte| (length, byte))) {
+        comparison.input_for_all(vec![byte; length], |comparison, bytes| {
+            cut_starts(comparison, bytes);
+            cut_bins(comparison, bytes);
+        });
+    }
+}
+
+/// By every bit count up to some more than the bytes hold.
+fn cut_starts(comparison: &mut Comparison, bytes: &[u8]) {
+    let state = to_state(states_that_want(0)[0]);
+    for bits in (0..=8 * bytes.len() + 9).chain([usize::MAX]) {
+        start(comparison, &mut Run { bytes, bits, state });
+    }
+}
+
+/// With so many bits left and fewer, of a payload said to have fewer bits than the bytes hold, as many and more.
+fn cut_bins(comparison: &mut Comparison, bytes: &[u8]) {
+    let held = 8 * bytes.len();
+    let contexts = [300, 40].map(|lg| Context {
+        lg,
+        ..to_context(independent::fresh())
+    });
+    for bits in [held.saturating_sub(3), held, held + 1, usize::MAX] {
+        let end = bits.min(held);
+        for place in end.saturating_sub(MOST_LEFT)..=end {
+            for state in states_that_want(place as u64).into_iter().map(to_state) {
+                each_bin(comparison, &Run { bytes, bits, state }, contexts);
+            }
+        }
+    }
 }
 
 /// Payloads at the limit and one byte over: zeros that keep a start doubling to their very end, and states at the limits.

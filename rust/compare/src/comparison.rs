@@ -30,23 +30,32 @@ pub(crate) trait Answered: PartialEq + Debug {
         None
     }
 
+    /// Of PAYLOAD OUT, how many bits were missing.
+    fn missing(&self) -> Option<u32> {
+        None
+    }
+
     /// The answer in words, where it differs from another.
     fn show(&self, _other: &Self) -> String {
         format!("{:?}", self)
     }
 }
 
-macro_rules! answered_with_status {
+macro_rules! answered_of_bits {
     ($($answer:ty),*) => {
         $(impl Answered for $answer {
             fn status(&self) -> u32 {
                 self.status
             }
+
+            fn missing(&self) -> Option<u32> {
+                Some(self.missing).filter(|missing| *missing > 0)
+            }
         })*
     };
 }
 
-answered_with_status!(Golomb, SignedNumber, Started, PlainBin, Bin, PairBin);
+answered_of_bits!(Golomb, SignedNumber, Started, PlainBin, Bin, PairBin);
 
 impl Answered for Answer {
     fn status(&self) -> u32 {
@@ -168,6 +177,13 @@ pub(crate) fn alone() -> String {
     "the input alone".to_string()
 }
 
+/// What a payload is read with: how many bits it is said to have, and the place that reading begins at.
+#[derive(Clone, Copy)]
+pub(crate) struct Reading {
+    pub bits: usize,
+    pub place: usize,
+}
+
 /// Who is asked.
 #[derive(Clone, Copy)]
 pub struct Decoders<'a> {
@@ -270,6 +286,24 @@ impl<'a> Comparison<'a> {
             }
         }
         expected
+    }
+
+    /// Asks of a payload's bits; the bits that were missing are counted by how it was read.
+    pub fn ask_of_bits<T: Answered>(
+        &mut self,
+        question: Question,
+        reading: Reading,
+        with: With,
+        call: impl Fn(&Decoder) -> T,
+    ) -> T {
+        let answer = self.ask(question, with, call);
+        if let Some(missing) = answer.missing() {
+            let held = 8 * self.input.len();
+            let end = reading.bits.min(held);
+            let (bits, place) = (reading.bits.cmp(&held), reading.place.cmp(&end));
+            self.report.missing(question, missing, bits, place);
+        }
+        answer
     }
 
     /// Asks for numbers with each of some rooms lent, the last of them enough; answers the status with that.

@@ -69,28 +69,60 @@ pub(crate) fn hand_over<T: Copy>(words: &[T], lent: &mut [T]) -> Answer {
     }
 }
 
+/// The status of a number, a start or a bin, with the bits that were missing: none for every status but PAYLOAD OUT.
+#[derive(Clone, Copy)]
+pub(crate) struct Status {
+    pub number: u32,
+    pub missing: u32,
+}
+
+impl Status {
+    /// Of what was read or refused.
+    fn of<T>(read: &Result<T, Status>) -> Status {
+        let done = Status {
+            number: AVSPLUS_DONE,
+            missing: 0,
+        };
+        read.as_ref().err().copied().unwrap_or(done)
+    }
+}
+
 /// The answer for an Exp-Golomb number read, or not, at a place.
-pub(crate) fn golomb(read: Result<(u32, usize), u32>, place: usize) -> Golomb {
-    let (status, (number, place)) = match read {
-        Ok(read) => (AVSPLUS_DONE, read),
-        Err(status) => (status, (AVSPLUS_NO_NUMBER, place)),
-    };
-    Golomb { status, number, place }
+pub(crate) fn golomb(read: Result<(u32, usize), Status>, place: usize) -> Golomb {
+    let status = Status::of(&read);
+    let (number, place) = read.unwrap_or((AVSPLUS_NO_NUMBER, place));
+    Golomb {
+        status: status.number,
+        missing: status.missing,
+        number,
+        place,
+    }
 }
 
 /// The same for a signed number.
-pub(crate) fn signed_number(read: Result<(i32, usize), u32>, place: usize) -> SignedNumber {
-    let (status, (number, place)) = match read {
-        Ok(read) => (AVSPLUS_DONE, read),
-        Err(status) => (status, (AVSPLUS_NO_SIGNED_NUMBER, place)),
-    };
-    SignedNumber { status, number, place }
+pub(crate) fn signed_number(read: Result<(i32, usize), Status>, place: usize) -> SignedNumber {
+    let status = Status::of(&read);
+    let (number, place) = read.unwrap_or((AVSPLUS_NO_SIGNED_NUMBER, place));
+    SignedNumber {
+        status: status.number,
+        missing: status.missing,
+        number,
+        place,
+    }
+}
+
+/// The answer for a start, with the state that was lent where it is refused.
+pub(crate) fn started(started: Result<State, Status>, lent: State) -> Started {
+    let status = Status::of(&started);
+    let state = started.unwrap_or(lent);
+    Started {
+        status: status.number,
+        missing: status.missing,
+        state,
+    }
 }
 
 /// Status and bin of a bin that was decoded or refused.
-pub(crate) fn bin(decoded: Result<u32, u32>) -> (u32, u32) {
-    match decoded {
-        Ok(bin) => (AVSPLUS_DONE, bin),
-        Err(status) => (status, AVSPLUS_NO_BIN),
-    }
+pub(crate) fn bin(decoded: Result<u32, Status>) -> (Status, u32) {
+    (Status::of(&decoded), decoded.unwrap_or(AVSPLUS_NO_BIN))
 }

@@ -85,6 +85,8 @@ fn exhaustive(comparison: &mut Comparison, small: bool) {
     payloads::all_start_codes(comparison, start_codes);
     payloads::all_escapes(comparison, escapes);
     payloads::two_byte_golomb(comparison, step);
+    payloads::cut_golomb(comparison, !small);
+    bins::cut(comparison);
     slices::of_all_heights(comparison, heights);
     slices::of_two(comparison);
     fields::of_all_layouts(comparison, !small);

@@ -1,9 +1,9 @@
 //! Start codes, escape bits and Exp-Golomb numbers.
 
 use avsplus_sys::AVSPLUS_LONGEST_PAYLOAD;
-use independent::generate::{payload, Random};
+use independent::generate::{cut_number, payload, Random};
 
-use crate::comparison::{lend, rooms, Comparison};
+use crate::comparison::{lend, rooms, Comparison, Reading};
 use crate::inputs::{all_strings, bit_count, letters, pick};
 use crate::report::Question;
 
@@ -62,6 +62,46 @@ pub(crate) fn two_byte_golomb(comparison: &mut Comparison, step: usize) {
     }
 }
 
+/// One more than VALUE takes.
+const MOST_ZEROS: u64 = 33;
+/// The most zeros of a number that is read: all counts of missing bits are those of such a one.
+const ZEROS_OF_LONGEST: u64 = 31;
+
+/// Numbers cut at each of their bits by the bit count, where the bytes hold more, and by the bytes, where the count says as
+/// much or more. Both wrappers are asked too.
+pub(crate) fn cut_golomb(comparison: &mut Comparison, all: bool) {
+    for zeros in 0..=MOST_ZEROS {
+        let whole = 2 * zeros + 1;
+        let (bytes, place) = cut_number(zeros, whole + 9);
+        comparison.input_for_all(bytes, |comparison, bytes| {
+            for end in place..=place + whole {
+                cut_questions(comparison, bytes, end as usize, place as usize);
+            }
+        });
+        if all || zeros == ZEROS_OF_LONGEST {
+            (0..=whole).for_each(|kept| cut_by_bytes(comparison, zeros, kept));
+        }
+    }
+}
+
+fn cut_by_bytes(comparison: &mut Comparison, zeros: u64, kept: u64) {
+    let (bytes, place) = cut_number(zeros, kept);
+    comparison.input_for_all(bytes, |comparison, bytes| {
+        let held = 8 * bytes.len();
+        for bits in [held, held + 1, held + 40, usize::MAX] {
+            cut_questions(comparison, bytes, bits, place as usize);
+        }
+    });
+}
+
+/// From the place of the number, from the end on and past it.
+fn cut_questions(comparison: &mut Comparison, bytes: &[u8], bits: usize, place: usize) {
+    let end = bits.min(8 * bytes.len());
+    for from in [place, end, end + 1, end + 31] {
+        golomb(comparison, bytes, bits, from);
+    }
+}
+
 /// Payloads of any bytes, and of few ones between long runs of zeros.
 pub(crate) fn generated_golomb(comparison: &mut Comparison, random: &mut Random, count: u64) {
     for i in 0..count {
@@ -76,11 +116,12 @@ fn zeros_and_ones(random: &mut Random) -> Vec<u8> {
 }
 
 fn golomb(comparison: &mut Comparison, bytes: &[u8], bits: usize, place: usize) {
+    let reading = Reading { bits, place };
     let with = || format!("{} bits, place {}", bits, place);
-    comparison.ask(Question::UnsignedGolomb, &with, |decoder| {
+    comparison.ask_of_bits(Question::UnsignedGolomb, reading, &with, |decoder| {
         (decoder.unsigned_golomb)(bytes, bits, place)
     });
-    comparison.ask(Question::SignedGolomb, &with, |decoder| {
+    comparison.ask_of_bits(Question::SignedGolomb, reading, &with, |decoder| {
         (decoder.signed_golomb)(bytes, bits, place)
     });
 }

@@ -1,13 +1,13 @@
 //! The independent decoder, its answers put as the C interface has them.
 
 use avsplus_sys::{
-    Answer, Bin, Context, Golomb, PairBin, Part, PlainBin, SignedNumber, Started, State, AVSPLUS_DONE, AVSPLUS_EDIT_CODE,
+    Answer, Bin, Context, Golomb, PairBin, Part, PlainBin, SignedNumber, Started, State, AVSPLUS_EDIT_CODE,
     AVSPLUS_EXTENSION_UNIT, AVSPLUS_I_PICTURE, AVSPLUS_NO_KIND, AVSPLUS_PB_PICTURE, AVSPLUS_SEQUENCE_END,
     AVSPLUS_SEQUENCE_HEADER, AVSPLUS_SLICE, AVSPLUS_USER_DATA,
 };
-use independent::{Copyright, Display, Extension, Fault, Header, Refused};
+use independent::{Copyright, Display, Extension, Fault, Header, Refused, Unread};
 
-use crate::decoder::{self, done, hand_over, refused, Decoder};
+use crate::decoder::{self, done, hand_over, refused, Decoder, Status};
 
 pub const REFERENCE: Decoder = Decoder {
     name: "independent",
@@ -136,13 +136,20 @@ fn remove_escapes(payload: &[u8], output: &mut [u8]) -> Answer {
     }
 }
 
+fn unread(refusal: Unread) -> Status {
+    Status {
+        number: refusal.number,
+        missing: refusal.missing.unwrap_or(0),
+    }
+}
+
 fn unsigned_golomb(bytes: &[u8], bits: usize, place: usize) -> Golomb {
-    let read = independent::golomb(bytes, bits as u64, place as u64);
+    let read = independent::golomb(bytes, bits as u64, place as u64).map_err(unread);
     decoder::golomb(read.map(|(number, after)| (number, after as usize)), place)
 }
 
 fn signed_golomb(bytes: &[u8], bits: usize, place: usize) -> SignedNumber {
-    let read = independent::signed_golomb(bytes, bits as u64, place as u64);
+    let read = independent::signed_golomb(bytes, bits as u64, place as u64).map_err(unread);
     decoder::signed_number(read.map(|(number, after)| (number, after as usize)), place)
 }
 
@@ -188,21 +195,22 @@ pub(crate) fn to_context(context: independent::Context) -> Context {
 }
 
 fn start(bytes: &[u8], bits: usize, state: State) -> Started {
-    match independent::start(bytes, bits as u64) {
-        Ok(started) => Started {
-            status: AVSPLUS_DONE,
-            state: to_state(started),
-        },
-        Err(status) => Started { status, state },
-    }
+    let started = independent::start(bytes, bits as u64).map_err(unread);
+    decoder::started(started.map(to_state), state)
+}
+
+/// Status and bin of the independent decoder's answer.
+fn bin<T>(decoded: &Result<T, Unread>, of: impl FnOnce(&T) -> u32) -> (Status, u32) {
+    decoder::bin(decoded.as_ref().map(of).map_err(|refusal| unread(*refusal)))
 }
 
 fn decode(bytes: &[u8], bits: usize, state: State, context: Context) -> Bin {
     let decoded = independent::decode(bytes, bits as u64, from_state(state), from_context(context));
-    let (status, bin) = decoder::bin(decoded.map(|(bin, _, _)| bin));
+    let (status, bin) = bin(&decoded, |(bin, _, _)| *bin);
     let (state, context) = decoded.map_or((state, context), |(_, s, c)| (to_state(s), to_context(c)));
     Bin {
-        status,
+        status: status.number,
+        missing: status.missing,
         bin,
         state,
         context,
@@ -212,12 +220,13 @@ fn decode(bytes: &[u8], bits: usize, state: State, context: Context) -> Bin {
 fn decode_pair(bytes: &[u8], bits: usize, state: State, first: Context, second: Context) -> PairBin {
     let (a, b) = (from_context(first), from_context(second));
     let decoded = independent::decode_pair(bytes, bits as u64, from_state(state), a, b);
-    let (status, bin) = decoder::bin(decoded.map(|(bin, _, _, _)| bin));
+    let (status, bin) = bin(&decoded, |(bin, _, _, _)| *bin);
     let (state, first, second) = decoded.map_or((state, first, second), |(_, s, a, b)| {
         (to_state(s), to_context(a), to_context(b))
     });
     PairBin {
-        status,
+        status: status.number,
+        missing: status.missing,
         bin,
         state,
         first,
@@ -225,10 +234,15 @@ fn decode_pair(bytes: &[u8], bits: usize, state: State, first: Context, second: 
     }
 }
 
-fn plain(decoded: Result<(u32, independent::State), u32>, state: State) -> PlainBin {
-    let (status, bin) = decoder::bin(decoded.map(|(bin, _)| bin));
+fn plain(decoded: Result<(u32, independent::State), Unread>, state: State) -> PlainBin {
+    let (status, bin) = bin(&decoded, |(bin, _)| *bin);
     let state = decoded.map_or(state, |(_, after)| to_state(after));
-    PlainBin { status, bin, state }
+    PlainBin {
+        status: status.number,
+        missing: status.missing,
+        bin,
+        state,
+    }
 }
 
 fn kind(code: u8) -> u32 {

@@ -1,5 +1,6 @@
 //! What a comparison has found: the answers met, the inputs compared, the differences.
 
+use std::cmp::Ordering;
 use std::collections::BTreeMap;
 use std::fmt;
 
@@ -88,6 +89,8 @@ pub struct Report {
     met: [[u64; STATUSES]; QUESTIONS.len()],
     /// How often a bit was carried, by question, status, bit and whether in a later group than the first.
     carried: BTreeMap<(usize, u32, usize, bool), u64>,
+    /// How often so many bits were missing, by question, count, bit count beside what the bytes hold, and place beside the end.
+    missing: BTreeMap<(usize, u32, Ordering, Ordering), u64>,
     /// How often so many numbers were handed over, by question and count.
     handed_over: BTreeMap<(usize, usize), u64>,
     kept: Vec<Kept>,
@@ -101,6 +104,7 @@ impl Report {
             differing: [0; QUESTIONS.len()],
             met: [[0; STATUSES]; QUESTIONS.len()],
             carried: BTreeMap::new(),
+            missing: BTreeMap::new(),
             handed_over: BTreeMap::new(),
             kept: Vec::new(),
         }
@@ -123,6 +127,21 @@ impl Report {
             .keys()
             .filter(|(q, _, _, l)| QUESTIONS[*q] == question && *l == later);
         carried.map(|&(_, status, bit, _)| (status, bit)).collect()
+    }
+
+    /// Counts a PAYLOAD OUT by the bits that were missing.
+    pub(crate) fn missing(&mut self, question: Question, missing: u32, bits: Ordering, place: Ordering) {
+        *self.missing.entry((question as usize, missing, bits, place)).or_insert(0) += 1;
+    }
+
+    /// How many bits were missing in a question's refusals, each count once: of payloads said to have fewer bits than the bytes
+    /// hold, as many or more, read from a place before the end, at it or past it.
+    pub fn counts_missing(&self, question: &str, bits: Ordering, place: Ordering) -> Vec<u32> {
+        let of_question = self
+            .missing
+            .keys()
+            .filter(|(q, _, b, p)| QUESTIONS[*q] == question && (*b, *p) == (bits, place));
+        of_question.map(|&(_, missing, _, _)| missing).collect()
     }
 
     /// Counts an answer that hands so many numbers over.
@@ -216,11 +235,36 @@ fn bits(f: &mut fmt::Formatter, report: &Report) -> fmt::Result {
     writeln!(f)
 }
 
+/// How many bits were missing, each count with how often: of numbers, of starts and of bins of all kinds.
+fn missing_bits(f: &mut fmt::Formatter, report: &Report) -> fmt::Result {
+    const COLUMNS: [Question; 4] = [
+        Question::UnsignedGolomb,
+        Question::SignedGolomb,
+        Question::Start,
+        Question::Decode,
+    ];
+    let mut counts: BTreeMap<u32, [u64; COLUMNS.len()]> = BTreeMap::new();
+    for (&(q, missing, _, _), times) in &report.missing {
+        let column = COLUMNS
+            .iter()
+            .position(|column| *column as usize == q)
+            .unwrap_or(COLUMNS.len() - 1);
+        counts.entry(missing).or_insert([0; COLUMNS.len()])[column] += times;
+    }
+    let names = ["unsigned golomb", "signed golomb", "start", "bins"];
+    line(f, "bits missing", names.iter().map(|name| name.to_string()))?;
+    for (missing, times) in counts {
+        line(f, &format!("{:2}", missing), times.iter().copied().map(shown))?;
+    }
+    writeln!(f)
+}
+
 impl fmt::Display for Report {
     fn fmt(&self, f: &mut fmt::Formatter) -> fmt::Result {
         let questions: Vec<usize> = (0..QUESTIONS.len()).collect();
         questions.chunks(COLUMNS).try_for_each(|some| table(f, self, some))?;
         bits(f, self)?;
+        missing_bits(f, self)?;
         for (&(q, count), times) in &self.handed_over {
             writeln!(f, "{:<16} {:>2} numbers handed over {:>8} times", QUESTIONS[q], count, times)?;
         }

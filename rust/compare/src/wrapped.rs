@@ -1,14 +1,14 @@
 //! The safe crate, its answers put back as the C interface has them.
 
 use avsplus::{
-    DisplayExtension, DisplayRatio, Extension, Group, Kind, Payload, Ratio, Recording, Refused, Scope, SequenceHeader, Totals,
-    Unit,
+    DisplayExtension, DisplayRatio, Extension, Group, Kind, Payload, Ratio, Reason, Recording, Refused, Scope, SequenceHeader,
+    Totals, Unit,
 };
 use avsplus_sys::{
     Answer, Bin, Context, Golomb, PairBin, Part, PlainBin, SignedNumber, Started, State, AVSPLUS_DONE, AVSPLUS_NO_KIND,
 };
 
-use crate::decoder::{self, done, hand_over, refused, Decoder};
+use crate::decoder::{self, done, hand_over, refused, Decoder, Status};
 
 /// The functions that lend memory on, one for each of the library's.
 pub const WRAPPED: Decoder = Decoder {
@@ -63,12 +63,17 @@ fn status(refusal: Refused) -> u32 {
     }
 }
 
-/// The status of a refusal that has neither offset nor bit: either is a difference.
-fn status_alone(refusal: Refused) -> u32 {
-    match (refusal.offset, refusal.reason.bit()) {
+/// The status of a number, a start or a bin that is refused. Such a refusal has neither offset nor bit: either is a difference.
+fn unread(refusal: Refused) -> Status {
+    let number = match (refusal.offset, refusal.reason.bit()) {
         (None, None) => status(refusal),
         _ => u32::MAX,
-    }
+    };
+    let missing = match refusal.reason {
+        Reason::PayloadOut { missing } => missing,
+        _ => 0,
+    };
+    Status { number, missing }
 }
 
 /// The units of a filed stream, or its refusal.
@@ -276,17 +281,11 @@ fn remove_escapes(raw: &[u8], output: &mut [u8]) -> Answer {
 }
 
 fn unsigned_golomb(bytes: &[u8], bits: usize, place: usize) -> Golomb {
-    decoder::golomb(
-        Payload::first_bits(bytes, bits).unsigned_golomb(place).map_err(status_alone),
-        place,
-    )
+    decoder::golomb(Payload::first_bits(bytes, bits).unsigned_golomb(place).map_err(unread), place)
 }
 
 fn signed_golomb(bytes: &[u8], bits: usize, place: usize) -> SignedNumber {
-    decoder::signed_number(
-        Payload::first_bits(bytes, bits).signed_golomb(place).map_err(status_alone),
-        place,
-    )
+    decoder::signed_number(Payload::first_bits(bytes, bits).signed_golomb(place).map_err(unread), place)
 }
 
 fn from_state(state: State) -> avsplus::State {
@@ -310,28 +309,21 @@ fn to_context(context: avsplus::Context) -> Context {
 }
 
 fn start(bytes: &[u8], bits: usize, state: State) -> Started {
-    match Payload::first_bits(bytes, bits).start() {
-        Ok(state) => Started {
-            status: AVSPLUS_DONE,
-            state: to_state(state),
-        },
-        Err(refusal) => Started {
-            status: status_alone(refusal),
-            state,
-        },
-    }
+    let started = Payload::first_bits(bytes, bits).start();
+    decoder::started(started.map(to_state).map_err(unread), state)
 }
 
 /// Status and bin of the safe crate's answer.
-fn status_and_bin(decoded: Result<bool, Refused>) -> (u32, u32) {
-    decoder::bin(decoded.map(u32::from).map_err(status_alone))
+fn bin(decoded: Result<bool, Refused>) -> (Status, u32) {
+    decoder::bin(decoded.map(u32::from).map_err(unread))
 }
 
 fn decode(bytes: &[u8], bits: usize, state: State, context: Context) -> Bin {
     let (mut state, mut context) = (from_state(state), from_context(context));
-    let (status, bin) = status_and_bin(Payload::first_bits(bytes, bits).decode(&mut state, &mut context));
+    let (status, bin) = bin(Payload::first_bits(bytes, bits).decode(&mut state, &mut context));
     Bin {
-        status,
+        status: status.number,
+        missing: status.missing,
         bin,
         state: to_state(state),
         context: to_context(context),
@@ -341,9 +333,10 @@ fn decode(bytes: &[u8], bits: usize, state: State, context: Context) -> Bin {
 fn decode_pair(bytes: &[u8], bits: usize, state: State, first: Context, second: Context) -> PairBin {
     let (mut state, mut first, mut second) = (from_state(state), from_context(first), from_context(second));
     let decoded = Payload::first_bits(bytes, bits).decode_pair(&mut state, &mut first, &mut second);
-    let (status, bin) = status_and_bin(decoded);
+    let (status, bin) = bin(decoded);
     PairBin {
-        status,
+        status: status.number,
+        missing: status.missing,
         bin,
         state: to_state(state),
         first: to_context(first),
@@ -355,9 +348,10 @@ type Plain = for<'a> fn(&Payload<'a>, &mut avsplus::State) -> Result<bool, Refus
 
 fn plain(decode: Plain, bytes: &[u8], bits: usize, state: State) -> PlainBin {
     let mut state = from_state(state);
-    let (status, bin) = status_and_bin(decode(&Payload::first_bits(bytes, bits), &mut state));
+    let (status, bin) = bin(decode(&Payload::first_bits(bytes, bits), &mut state));
     PlainBin {
-        status,
+        status: status.number,
+        missing: status.missing,
         bin,
         state: to_state(state),
     }

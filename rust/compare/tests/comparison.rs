@@ -286,7 +286,7 @@ fn last_number(answer: Answer, numbers: &mut [u64]) -> Answer {
 /// A slip by its name: what it changes in a decoder.
 type Slip = (&'static str, fn(&mut Decoder));
 
-/// At least one for every question; those of numbers and bits are in tests/bits.rs.
+/// At least one for every question; those of numbers and bits are in tests/bits.rs, those of missing bits in tests/missing.rs.
 const SLIPS: [Slip; 38] = [
     ("check that is full", |d| d.check = check_that_is_full),
     ("last row", |d| d.file = last_row),
