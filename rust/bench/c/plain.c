@@ -70,13 +70,17 @@ static inline int read_bit(const uint8_t *bytes, size_t length, size_t count, si
     return bytes[at] >> (7 - place % 8) & 1;
 }
 
-static bool read_bits(const uint8_t *bytes, size_t length, size_t count, size_t place, uint32_t width, uint32_t *value)
+/* All bits of a read, or none of them and how many are missing. */
+static bool read_bits(const uint8_t *bytes, size_t length, size_t count, size_t place, uint32_t width, uint32_t *value,
+                      uint32_t *missing)
 {
     uint32_t v = 0;
     for (uint32_t k = 0; k < width; k++) {
         int bit = read_bit(bytes, length, count, place + k);
-        if (bit < 0)
+        if (bit < 0) {
+            *missing = width - k;
             return false;
+        }
         v = v * 2 + (uint32_t)bit;
     }
     *value = v;
@@ -688,11 +692,13 @@ typedef struct {
 
 typedef struct {
     uint32_t status;
+    uint32_t missing; /* of PAYLOAD_OUT, how many bits; else 0 */
     bin_state state;
 } started;
 
 typedef struct {
     uint32_t status;
+    uint32_t missing;
     uint32_t bin;
     bin_state state;
     context context;
@@ -730,22 +736,25 @@ static inline uint32_t guard(payload y, bin_state x, context c)
     return good_context(c) ? DONE : BAD_STATE;
 }
 
-static inline bool take_bit(payload y, uint32_t *value, size_t *place)
+static inline bool take_bit(payload y, uint32_t *value, size_t *place, uint32_t *missing)
 {
     int bit = read_bit(y.bytes, y.length, y.count, *place);
-    if (bit < 0)
+    if (bit < 0) {
+        *missing = 1;
         return false;
+    }
     *value = *value * 2 + (uint32_t)bit;
     *place += 1;
     return true;
 }
 
 /* The state of a value that is doubled, with the next bits, while it is below 256. */
-static inline uint32_t settle(payload y, uint32_t rt, uint32_t value, size_t place, bin_state *next)
+static inline uint32_t settle(payload y, uint32_t rt, uint32_t value, size_t place, bin_state *next,
+                              uint32_t *missing)
 {
     uint32_t n = 0;
     while (value < 256) {
-        if (!take_bit(y, &value, &place))
+        if (!take_bit(y, &value, &place, missing))
             return PAYLOAD_OUT;
         n++;
     }
@@ -765,22 +774,22 @@ static inline bool misses(bin_state x, split r)
     return r.s == x.vs ? r.t <= x.vt : x.vs < r.s;
 }
 
-static inline uint32_t unpredicted(payload y, bin_state x, split r, bin_state *next)
+static inline uint32_t unpredicted(payload y, bin_state x, split r, bin_state *next, uint32_t *missing)
 {
     uint32_t value = x.vt, range = r.range;
     size_t place = x.place;
     if (r.s != x.vs) {
-        if (!take_bit(y, &value, &place))
+        if (!take_bit(y, &value, &place, missing))
             return PAYLOAD_OUT;
         value += 256;
     }
     value -= r.t;
     while (range < 256) {
-        if (!take_bit(y, &value, &place))
+        if (!take_bit(y, &value, &place, missing))
             return PAYLOAD_OUT;
         range *= 2;
     }
-    return settle(y, range % 256, value, place, next);
+    return settle(y, range % 256, value, place, next, missing);
 }
 
 static inline uint32_t rate(uint32_t cycno)
@@ -811,11 +820,11 @@ static inline context updated(context c, uint32_t bin)
 }
 
 /* One bin of a state and a context within their ranges; both stay for a refusal. */
-static inline uint32_t step(payload y, bin_state *x, context *c, uint32_t *bin)
+static inline uint32_t step(payload y, bin_state *x, context *c, uint32_t *bin, uint32_t *missing)
 {
     split r = split_range(*x, c->lg / 4);
     if (misses(*x, r)) {
-        uint32_t status = unpredicted(y, *x, r, x);
+        uint32_t status = unpredicted(y, *x, r, x, missing);
         if (status != DONE)
             return status;
         *bin = 1 - c->mps;
@@ -830,30 +839,30 @@ static inline uint32_t step(payload y, bin_state *x, context *c, uint32_t *bin)
 
 started plain_start(const uint8_t *bytes, size_t length, size_t bits, bin_state state)
 {
-    started a = {DONE, state};
+    started a = {DONE, 0, state};
     uint32_t value;
     if (LONGEST_PAYLOAD < length)
         a.status = TOO_LONG;
-    else if (!read_bits(bytes, length, bits, 0, 9, &value))
+    else if (!read_bits(bytes, length, bits, 0, 9, &value, &a.missing))
         a.status = PAYLOAD_OUT;
     else
-        a.status = settle((payload){bytes, length, bits}, 255, value, 9, &a.state);
+        a.status = settle((payload){bytes, length, bits}, 255, value, 9, &a.state, &a.missing);
     return a;
 }
 
 decoded plain_decode(const uint8_t *bytes, size_t length, size_t bits, bin_state state, context context)
 {
     payload y = {bytes, length, bits};
-    decoded a = {guard(y, state, context), 2, state, context};
+    decoded a = {guard(y, state, context), 0, 2, state, context};
     if (a.status == DONE)
-        a.status = step(y, &a.state, &a.context, &a.bin);
+        a.status = step(y, &a.state, &a.context, &a.bin, &a.missing);
     return a;
 }
 
 uint32_t plain_decode_in_place(const uint8_t *bytes, size_t length, size_t bits, bin_state *state, context *context,
-                               uint32_t *bin)
+                               uint32_t *bin, uint32_t *missing)
 {
     payload y = {bytes, length, bits};
     uint32_t status = guard(y, *state, *context);
-    return status == DONE ? step(y, state, context, bin) : status;
+    return status == DONE ? step(y, state, context, bin, missing) : status;
 }

@@ -1,9 +1,10 @@
 //! Bins, one at a time, by 1 context and by 512.
 use crate::inputs;
-use crate::library::{self, Bin, Context, State};
+use crate::library::{self, Bin, Context, Started, State, Unread};
 use crate::measure::{measure, Measured, Rival, Work, LIBRARY, SAME};
 use crate::rows::Scale;
 use crate::{plain_c, plain_rust};
+use std::collections::BTreeSet;
 
 const FRESH: Context = Context {
     mps: 0,
@@ -20,11 +21,13 @@ const NO_STATE: State = State {
     place: 0,
 };
 
-/// What stands after the bins: their number, the bins themselves mixed into one number, the state and the contexts.
+/// What stands after the bins: their number, the bins themselves mixed into one number, why there are no more, the state and
+/// the contexts.
 #[derive(PartialEq, Eq)]
 struct Run {
     bins: usize,
     mixed: u64,
+    refused: Option<Unread>,
     state: State,
     contexts: [Context; 512],
 }
@@ -56,6 +59,7 @@ fn bins(row: &'static str, scale: Scale, contexts: usize) -> Measured {
         assert!(run(&payload, &indices) == expected, "{}: other bins", name);
     }
     check_ranges(&payload);
+    check_missing();
     let rivals = BINS.iter().map(|&(name, bins)| {
         let (payload, indices) = (&payload, &indices);
         let run = Box::new(move || bins(payload, indices).mixed);
@@ -69,34 +73,40 @@ fn bins(row: &'static str, scale: Scale, contexts: usize) -> Measured {
 }
 
 #[inline(always)]
-fn run(start: State, indices: &[u16], decode: impl Fn(&mut State, &mut Context) -> Option<u32>) -> Run {
+fn run(start: State, indices: &[u16], decode: impl Fn(&mut State, &mut Context) -> Result<u32, Unread>) -> Run {
     let mut contexts = [FRESH; 512];
     let mut state = start;
     let mut bins = 0;
     let mut mixed: u64 = 0;
+    let mut refused = None;
     for &index in indices {
         match decode(&mut state, &mut contexts[usize::from(index) % 512]) {
-            Some(bin) => mixed = mixed.rotate_left(1) ^ u64::from(bin),
-            None => break,
+            Ok(bin) => mixed = mixed.rotate_left(1) ^ u64::from(bin),
+            Err(unread) => {
+                refused = Some(unread);
+                break;
+            }
         }
         bins += 1;
     }
     Run {
         bins,
         mixed,
+        refused,
         state,
         contexts,
     }
 }
 
 #[inline(always)]
-fn keep(decoded: Bin, state: &mut State, context: &mut Context) -> Option<u32> {
-    if decoded.status != 0 {
-        return None;
+fn keep(decoded: Bin, state: &mut State, context: &mut Context) -> Result<u32, Unread> {
+    let Bin { status, missing, .. } = decoded;
+    if status != 0 {
+        return Err(Unread { status, missing });
     }
     *state = decoded.state;
     *context = decoded.context;
-    Some(decoded.bin)
+    Ok(decoded.bin)
 }
 
 fn by_library(payload: &[u8], indices: &[u16]) -> Run {
@@ -120,7 +130,7 @@ fn by_plain_c_in_place(payload: &[u8], indices: &[u16]) -> Run {
 fn by_plain_rust(payload: &[u8], indices: &[u16]) -> Run {
     let bits = payload.len() * 8;
     let start = plain_rust::start(payload, bits).unwrap_or(NO_STATE);
-    run(start, indices, |s, c| plain_rust::decode(payload, bits, s, c).ok())
+    run(start, indices, |s, c| plain_rust::decode(payload, bits, s, c))
 }
 
 /// States and contexts on and past the ends of their ranges: all rivals refuse the same of them.
@@ -140,22 +150,53 @@ fn check_ranges(payload: &[u8]) {
             lg: if out(6) == 1 { 3 + out(7) * 1021 } else { 4 + out(7) * 1019 },
             cycno: 3 + out(8),
         };
-        check_refusal(payload, bits, state, context);
+        check_decode(payload, bits, state, context);
     }
 }
 
-fn check_refusal(payload: &[u8], bits: usize, state: State, context: Context) {
+/// All rivals decode this alike, or refuse it alike; answers how many bits were missing.
+fn check_decode(payload: &[u8], bits: usize, state: State, context: Context) -> u32 {
     let expected = library::decode(payload, bits, state, context);
     let by_value = plain_c::decode(payload, bits, state, context);
+    assert_eq!(by_value, expected, "plain C, by value");
+    let (mut s, mut c) = (state, context);
+    let kept = (keep(expected, &mut s, &mut c), s, c);
     let (mut s, mut c) = (state, context);
     let in_place = plain_c::decode_in_place(payload, bits, &mut s, &mut c);
-    let (mut rust_s, mut rust_c) = (state, context);
-    let rust = plain_rust::decode(payload, bits, &mut rust_s, &mut rust_c);
-    assert_eq!(by_value, expected, "plain C, by value");
-    assert_eq!(
-        (in_place, s, c),
-        (rust.ok(), rust_s, rust_c),
-        "plain C, by pointers, and plain Rust"
-    );
-    assert_eq!(rust.err().unwrap_or(0), expected.status, "plain Rust");
+    assert_eq!((in_place, s, c), kept, "plain C, by pointers");
+    let (mut s, mut c) = (state, context);
+    let rust = plain_rust::decode(payload, bits, &mut s, &mut c);
+    assert_eq!((rust, s, c), kept, "plain Rust");
+    expected.missing
+}
+
+/// The same for a start.
+fn check_start(payload: &[u8], bits: usize) -> u32 {
+    let expected = library::start(payload, bits, NO_STATE);
+    let Started { status, missing, state } = expected;
+    assert_eq!(plain_c::start(payload, bits, NO_STATE), expected, "plain C");
+    let started = if status == 0 {
+        Ok(state)
+    } else {
+        Err(Unread { status, missing })
+    };
+    assert_eq!(plain_rust::start(payload, bits), started, "plain Rust");
+    missing
+}
+
+/// All rivals say alike how many bits are missing of payloads that end within a start or a bin, by the bit count and by the
+/// bytes.
+fn check_missing() {
+    let (mut of_starts, mut of_bins) = (BTreeSet::new(), BTreeSet::new());
+    for (payload, bits) in inputs::cut_payloads() {
+        of_starts.insert(check_start(&payload, bits));
+        let end = bits.min(payload.len() * 8);
+        for (place, (rt, vt)) in (0..=end).flat_map(|place| [(0, 255), (255, 0), (255, 255)].map(|of_t| (place, of_t))) {
+            let (rs, vs) = (3, 3);
+            of_bins.insert(check_decode(&payload, bits, State { rs, rt, vs, vt, place }, FRESH));
+        }
+    }
+    // 0 where none are.
+    assert!(of_starts.into_iter().eq(0..=9), "counts of starts that were met");
+    assert!(of_bins.into_iter().eq(0..=1), "counts of bins that were met");
 }

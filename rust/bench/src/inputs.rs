@@ -235,6 +235,13 @@ pub fn random_bytes(length: usize) -> Vec<u8> {
     Random::new(4).bytes(length)
 }
 
+/// Short payloads with a bit count: each up to some more than the bytes hold.
+pub fn cut_payloads() -> Vec<(Vec<u8>, usize)> {
+    let of_bytes = |bytes: Vec<u8>| (0..=bytes.len() * 8 + 9).map(move |bits| (bytes.clone(), bits));
+    let all = (0..5).flat_map(|length| [0, 0x55, 0xFF].map(|byte| vec![byte; length]));
+    all.flat_map(of_bytes).collect()
+}
+
 /// Which context each bin is read by.
 pub fn indices(count: usize, contexts: usize) -> Vec<u16> {
     let mut random = Random::new(5);

@@ -2,6 +2,13 @@
 use avsplus_sys as sys;
 pub use avsplus_sys::{Answer, Bin, Context, Started, State, AVSPLUS_NO_BIT as NO_BIT};
 
+/// Why a bin or a start is refused, and of PAYLOAD OUT how many bits were missing, else 0.
+#[derive(Clone, Copy, Debug, PartialEq, Eq)]
+pub struct Unread {
+    pub status: u32,
+    pub missing: u32,
+}
+
 pub fn file(stream: &[u8], rows: &mut [u32]) -> Answer {
     // SAFETY: both slices are lent with their own lengths, and the unique one overlaps nothing.
     unsafe { sys::avsplus_file(stream.as_ptr(), stream.len(), rows.as_mut_ptr(), rows.len()) }

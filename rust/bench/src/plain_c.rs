@@ -1,5 +1,5 @@
 //! The plain C rivals. They answer in the library's records, so that one comparison serves all.
-use crate::library::{Answer, Bin, Context, Started, State};
+use crate::library::{Answer, Bin, Context, Started, State, Unread};
 
 type File = unsafe extern "C" fn(*const u8, usize, *mut u32, usize) -> Answer;
 type Next = unsafe extern "C" fn(*const u8, usize, usize) -> usize;
@@ -24,6 +24,7 @@ extern "C" {
         state: *mut State,
         context: *mut Context,
         bin: *mut u32,
+        missing: *mut u32,
     ) -> u32;
 }
 
@@ -92,13 +93,13 @@ pub fn decode(bytes: &[u8], bits: usize, state: State, context: Context) -> Bin 
 }
 
 #[inline(always)]
-pub fn decode_in_place(bytes: &[u8], bits: usize, state: &mut State, context: &mut Context) -> Option<u32> {
-    let mut bin = 0;
-    // SAFETY: the slice is lent with its own length; state, context and bin are unique.
-    let status = unsafe { plain_decode_in_place(bytes.as_ptr(), bytes.len(), bits, state, context, &mut bin) };
+pub fn decode_in_place(bytes: &[u8], bits: usize, state: &mut State, context: &mut Context) -> Result<u32, Unread> {
+    let (mut bin, mut missing) = (0, 0);
+    // SAFETY: the slice is lent with its own length; state, context, bin and missing are unique.
+    let status = unsafe { plain_decode_in_place(bytes.as_ptr(), bytes.len(), bits, state, context, &mut bin, &mut missing) };
     if status == 0 {
-        Some(bin)
+        Ok(bin)
     } else {
-        None
+        Err(Unread { status, missing })
     }
 }

@@ -1,5 +1,5 @@
 //! The plain Rust rivals: safe, and by the same algorithms. Each entry is a call, as from another crate.
-use crate::library::{Answer, Context, State, NO_BIT};
+use crate::library::{Answer, Context, State, Unread, NO_BIT};
 pub use crate::plain_rust_filing::file;
 
 /// A status, by the library's numbers.
@@ -45,8 +45,25 @@ fn read_bit(bytes: &[u8], count: usize, place: usize) -> Option<u32> {
     bytes.get(place / 8).map(|&byte| u32::from(byte) >> (7 - place % 8) & 1)
 }
 
-fn read_bits(bytes: &[u8], count: usize, place: usize, width: usize) -> Option<u32> {
-    (place..place + width).try_fold(0, |value, at| read_bit(bytes, count, at).map(|bit| value * 2 + bit))
+/// PAYLOAD OUT with so many bits missing.
+fn payload_out(missing: usize) -> Unread {
+    Unread {
+        status: status::PAYLOAD_OUT,
+        missing: missing as u32,
+    }
+}
+
+/// A refusal for which no bit is missing.
+fn unread(status: u32) -> Unread {
+    Unread { status, missing: 0 }
+}
+
+/// All bits of a read, or none of them and how many are missing.
+fn read_bits(bytes: &[u8], count: usize, place: usize, width: usize) -> Result<u32, Unread> {
+    (0..width).try_fold(0, |value, k| match read_bit(bytes, count, place + k) {
+        Some(bit) => Ok(value * 2 + bit),
+        None => Err(payload_out(width - k)),
+    })
 }
 
 #[inline(never)]
@@ -136,14 +153,14 @@ struct Bits<'a> {
 }
 
 impl Bits<'_> {
-    fn double(&mut self, value: u32) -> Result<u32, u32> {
-        let bit = read_bit(self.bytes, self.count, self.place).ok_or(status::PAYLOAD_OUT)?;
+    fn double(&mut self, value: u32) -> Result<u32, Unread> {
+        let bit = read_bit(self.bytes, self.count, self.place).ok_or_else(|| payload_out(1))?;
         self.place += 1;
         Ok(value * 2 + bit)
     }
 
     /// The state of a value that is doubled, with the next bits, while it is below 256.
-    fn settle(mut self, rt: u32, mut value: u32) -> Result<State, u32> {
+    fn settle(mut self, rt: u32, mut value: u32) -> Result<State, Unread> {
         let mut vs = 0;
         while value < 256 {
             value = self.double(value)?;
@@ -160,15 +177,15 @@ impl Bits<'_> {
 }
 
 #[inline(never)]
-pub fn start(bytes: &[u8], count: usize) -> Result<State, u32> {
+pub fn start(bytes: &[u8], count: usize) -> Result<State, Unread> {
     if LONGEST_PAYLOAD < bytes.len() {
-        return Err(status::TOO_LONG);
+        return Err(unread(status::TOO_LONG));
     }
-    let value = read_bits(bytes, count, 0, 9).ok_or(status::PAYLOAD_OUT)?;
+    let value = read_bits(bytes, count, 0, 9)?;
     Bits { bytes, count, place: 9 }.settle(255, value)
 }
 
-fn step(mut bits: Bits, x: &State, c: &Context) -> Result<(u32, State), u32> {
+fn step(mut bits: Bits, x: &State, c: &Context) -> Result<(u32, State), Unread> {
     let q = c.lg / 4;
     let (s, t, mut range) = if q <= x.rt {
         (x.rs, x.rt - q, q)
@@ -213,12 +230,12 @@ fn updated(c: &Context, bin: u32) -> Context {
 
 /// A bin; state and context stay for a refusal.
 #[inline(never)]
-pub fn decode(bytes: &[u8], count: usize, state: &mut State, context: &mut Context) -> Result<u32, u32> {
+pub fn decode(bytes: &[u8], count: usize, state: &mut State, context: &mut Context) -> Result<u32, Unread> {
     if LONGEST_PAYLOAD < bytes.len() {
-        return Err(status::TOO_LONG);
+        return Err(unread(status::TOO_LONG));
     }
     if !good_state(state, count.min(bytes.len() * 8)) || !good_context(context) {
-        return Err(status::BAD_STATE);
+        return Err(unread(status::BAD_STATE));
     }
     let place = state.place;
     let (bin, next) = step(Bits { bytes, count, place }, state, context)?;
