@@ -3,7 +3,7 @@
 use std::collections::BTreeSet;
 
 use independent::generate::{bins_payload, damaged, judged_bodies, payload, stream, streams_with, Random, BITS};
-use independent::{Copyright, Display, Extension, Header};
+use independent::{Copyright, Display, Extension, Header, Unread};
 
 use crate::json_reader::Json;
 use crate::support::*;
@@ -213,6 +213,19 @@ fn unescaped(raw: &[u8]) -> (Vec<u8>, u64) {
     (bytes, bits)
 }
 
+/// The number of an answer, and how many bits are missing where it is PAYLOAD OUT.
+fn answered(ran: &Ran) -> (i64, Option<i64>) {
+    let json = ran.json();
+    let number = json.get("number").number();
+    assert_eq!(ran.status, i32::from(number != 0));
+    (number, json.number_of("missing"))
+}
+
+/// The same of what ended the reading, if it was not done.
+fn ended(refused: Option<Unread>) -> (i64, Option<i64>) {
+    refused.map_or((0, None), |unread| (unread.number.into(), unread.missing.map(i64::from)))
+}
+
 #[test]
 fn numbers_of_generated_payloads() {
     let mut random = Random::new(9);
@@ -220,14 +233,14 @@ fn numbers_of_generated_payloads() {
         let raw = payload(&mut random);
         let (bytes, bits) = unescaped(&raw);
         let (mut expected, mut place) = (Vec::new(), 0);
-        let status = loop {
+        let refused = loop {
             match independent::golomb(&bytes, bits, place) {
                 Ok((number, after)) => {
                     expected.push([place as i64, i64::from(number)]);
                     place = after;
                 }
-                Err(14) if place == bits && !expected.is_empty() => break 0,
-                Err(status) => break status,
+                Err(Unread { number: 14, .. }) if place == bits && !expected.is_empty() => break None,
+                Err(refused) => break Some(refused),
             }
         };
         let ran = avsplus_reading(&["golomb", "-", "--escaped", "--json"], &raw);
@@ -235,10 +248,10 @@ fn numbers_of_generated_payloads() {
         let found = json.get("numbers").list().iter();
         let found: Vec<Vec<i64>> = found.map(|number| numbers(number, &["place", "number"])).collect();
         assert_eq!(found, expected);
-        let names = ["number", "payload_bits", "may_be_filling", "next_place", "bits_left"];
-        let rest = [status.into(), bits as i64, 0, place as i64, (bits - place) as i64];
+        let names = ["payload_bits", "may_be_filling", "next_place", "bits_left"];
+        let rest = [bits as i64, 0, place as i64, (bits - place) as i64];
         assert_eq!(numbers(&json, &names), rest);
-        assert_eq!(ran.status, i32::from(status != 0));
+        assert_eq!(answered(&ran), ended(refused));
     }
 }
 
@@ -253,28 +266,46 @@ fn bins_of_generated_payloads() {
         let json = ran.json();
         let mut state = match independent::start(&bytes, bits) {
             Ok(state) => state,
-            Err(status) => {
-                assert_eq!((ran.status, json.get("number").number()), (1, status.into()));
+            Err(refused) => {
+                assert_eq!(answered(&ran), ended(Some(refused)));
                 continue;
             }
         };
-        let (mut context, mut bins, mut status) = (independent::fresh(), Vec::new(), 0);
-        while (bins.len() as u64) < wanted && status == 0 {
+        let (mut context, mut bins, mut refused) = (independent::fresh(), Vec::new(), None);
+        while (bins.len() as u64) < wanted && refused.is_none() {
             match independent::decode(&bytes, bits, state, context) {
                 Ok((bin, after, learned)) => {
                     bins.push(Json::Number(bin.into()));
                     (state, context) = (after, learned);
                 }
-                Err(refused) => status = refused,
+                Err(unread) => refused = Some(unread),
             }
         }
-        assert_eq!(
-            (json.get("bins").list(), json.get("number").number()),
-            (&bins[..], status.into())
-        );
+        assert_eq!((json.get("bins").list(), answered(&ran)), (&bins[..], ended(refused)));
         let after = [state.rs, state.rt, state.vs, state.vt, state.place].map(|word| word as i64);
         assert_eq!(numbers(json.get("state"), &["rs", "rt", "vs", "vt", "place"]), after);
         let learned = [context.mps, context.lg, context.cycno].map(|word| word as i64);
         assert_eq!(numbers(json.get("context"), &["mps", "lg", "cycno"]), learned);
     }
+}
+
+/// A number with 31 zeros, and the start of bins, cut at each bit: every count of missing bits that there is.
+#[test]
+fn numbers_and_starts_cut_at_each_bit() {
+    let bytes = [0, 0, 0, 1, 0, 0, 0, 0];
+    let asked = |command: &[&str], bits: u64| {
+        let bits = bits.to_string();
+        answered(&avsplus_reading(&[command, &["--json", "--bits", &bits]].concat(), &bytes))
+    };
+    let (mut of_numbers, mut of_starts) = (BTreeSet::new(), BTreeSet::new());
+    for bits in 0..=63 {
+        let number = asked(&["golomb", "-", "--count", "1"], bits);
+        assert_eq!(number, ended(independent::golomb(&bytes, bits, 0).err()), "{}", bits);
+        let start = asked(&["bins", "-", "--count", "0"], bits);
+        assert_eq!(start, ended(independent::start(&bytes, bits).err()), "{}", bits);
+        of_numbers.extend(number.1);
+        of_starts.extend(start.1);
+    }
+    assert!(of_numbers.into_iter().eq(1..=31));
+    assert!(of_starts.into_iter().eq(1..=9));
 }
