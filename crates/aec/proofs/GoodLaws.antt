@@ -1,6 +1,6 @@
 -- Good leads to good, and past the first tests only PAYLOAD OUT refuses.
 use Prim.Native.Nat.{ℕ, _-_, _/_, _%_, _≤_, _<_}
-use mathlib.Core.Path.{_≡_, subst, _∙_}
+use mathlib.Core.Path.{_≡_, refl, subst, _∙_}
 use mathlib.Core.List.{List, [], _∷_}
 use mathlib.Core.Bool.{Bool}
 use native.Mathlib.Omega.{arith}
@@ -12,8 +12,10 @@ use Rattle.bits.specs.Bits.{payload, readAt}
 use Rattle.bits.proofs.TestLaws.{by-test}
 use Rattle.bits.proofs.BitLaws.{all-payload}
 use Rattle.bits.proofs.ReadLaws.{found-value}
-use Rattle.aec.specs.Bins.{withinLimit, doubleOf, shifts, normaliseOf, widenOf, settleOf, startOf, splitOf, missesOf, remainderOf, unpredictedOf, stepOf}
+use Rattle.aec.specs.Bins.{withinLimit, noBit, doubleOf, shifts, normaliseOf, widenOf, settleOf, startOf, splitOf, missesOf, remainderOf, unpredictedOf, stepOf}
+use Rattle.aec.specs.Says.{refusalSays}
 use Rattle.aec.specs.Claims.{Runs, runs-done, runs-out}
+use Rattle.aec.specs.declared.Refusal.{Refusal}
 use Rattle.aec.specs.declared.State.{State}
 use Rattle.aec.specs.declared.Shift.{Shift}
 use Rattle.aec.specs.declared.Split.{Split}
@@ -100,6 +102,14 @@ runs-shifts enough step (b ∷ l) z = chosen Runs (enough z) _ _ (λ t. runs-don
 
 pub runs-settle : (l : List ℕ) (rt vt place : ℕ) → Runs (settleOf l rt vt place)
 runs-settle l rt vt place = runs-then _ (runs-shifts _ _ (drop place l) _) (λ z. runs-done)
+
+-- so it refuses for want of one bit alone
+pub settle-refused : (l : List ℕ) (rt vt place : ℕ) (r : Refusal) → refusalSays r ≡ settleOf l rt vt place → noBit ≡ settleOf l rt vt place
+settle-refused l rt vt place r e = out (runs-settle l rt vt place) e
+  where
+    out : {o : Outcome State} → Runs o → refusalSays r ≡ o → noBit ≡ o
+    out runs-done q = not-done q
+    out runs-out q = refl
 
 runs-unpredicted : (l : List ℕ) (x : State) (y : Split) → Runs (unpredictedOf l x y)
 unfolding unpredictedOf remainderOf

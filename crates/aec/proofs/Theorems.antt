@@ -3,14 +3,14 @@ use Prim.Native.Nat.{ℕ, _-_, _%_, _≤_, _<_}
 use mathlib.Core.Path.{_≡_, refl, sym, ap, subst, _∙_}
 use mathlib.Core.Logic.{_⊎_, inl, inr, _↔_}
 use mathlib.Core.List.{List, [], _∷_, _++_}
-use mathlib.Core.Bool.{Bool, true, false, _&&_}
+use mathlib.Core.Bool.{Bool, true, false, cond, _&&_}
 use native.Mathlib.Omega.{arith}
 use borrow.Author.Tests.{le-leb, leb-true, leb-false}
-use lib.Dec.{leb}
+use lib.Dec.{eqb, leb}
 use lib.ListN.{length, replicate}
 use Rattle.answers.specs.Answers.{Carried, missing, Outcome, done, refused, TOO-LONG, BAD-STATE, PAYLOAD-OUT, andThen, OneToOne}
 use Rattle.answers.specs.Limits.{longestPayload}
-use Rattle.answers.specs.Missing.{payloadOut, SaysMissing, says-done, says-none, says-out}
+use Rattle.answers.specs.Missing.{payloadOut, SaysMissing, says-done, says-none, says-out, missingIn}
 use Rattle.answers.specs.Results.{Result, good, bad}
 use Rattle.bits.specs.Bits.{payload, readAt, readOr}
 use Rattle.bits.proofs.TestLaws.{by-test, and-true}
@@ -48,11 +48,16 @@ pub refusal-one-to-one : {A : Type 0} → OneToOne (refusalSays {A = A})
 refusal-one-to-one {A} = undone (refusalSays {A = A}) (answer (λ _. TooLong) (λ r. r)) (answer-refused {A = A} (λ _. TooLong) (λ r. r))
 
 pub started-one-to-one : OneToOne startedSays
-started-one-to-one = undone startedSays (answer started.Done started.Refused) back
+started-one-to-one = undone startedSays back is
   where
-    back : (a : Started) → answer started.Done started.Refused (startedSays a) ≡ a
-    back (started.Done x) = refl
-    back (started.Refused r) = answer-refused started.Done started.Refused r
+    back : Outcome State → Started
+    back (done x) = started.Done x
+    back (refused n carried) = cond (eqb n TOO-LONG) started.TooLong (started.PayloadOut (missingIn carried))
+
+    is : (a : Started) → back (startedSays a) ≡ a
+    is (started.Done x) = refl
+    is started.TooLong = refl
+    is (started.PayloadOut m) = refl
 
 pub stepped-one-to-one : OneToOne steppedSays
 stepped-one-to-one = undone steppedSays (answer value stepped.Refused) back

@@ -10,8 +10,11 @@ use Rattle.aec.specs.declared.Doubled.{Doubled}
 use Rattle.aec.specs.declared.Doubled.the-variants as doubled
 use Rattle.aec.specs.declared.Shifted.{Shifted}
 use Rattle.aec.specs.declared.Shifted.the-variants as shifted
+use Rattle.aec.specs.declared.Settled.{Settled}
+use Rattle.aec.specs.declared.Settled.the-variants as settled
+use Rattle.aec.specs.declared.State.{State}
 
--- the answers of the steps inside: what is refused before a bit is read, a number with the next bit, a loop's end
+-- the answers of the steps inside: what is refused before a bit is read, a number with the next bit, a loop's end, the state after it
 abbrev pub checkedSays : Checked → Outcome (Unit {0})
 checkedSays checked.Fine = done tt
 checkedSays (checked.Refused r) = refusalSays r
@@ -23,6 +26,10 @@ doubledSays (doubled.Refused r) = refusalSays r
 abbrev pub shiftedSays : Shifted → Outcome Shift
 shiftedSays (shifted.Done z) = done z
 shiftedSays (shifted.Refused r) = refusalSays r
+
+abbrev pub settledSays : Settled → Outcome State
+settledSays (settled.Done x) = done x
+settledSays (settled.Refused r) = refusalSays r
 
 -- the ranges of t and R
 pub record SplitRanges (y : Split) : Type 0 where

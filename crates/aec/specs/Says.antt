@@ -2,6 +2,7 @@
 use Prim.Native.Nat.{ℕ}
 use mathlib.Core.List.{List, [], _∷_}
 use Rattle.answers.specs.Answers.{Carried, missing, Outcome, done, refused, TOO-LONG, BAD-STATE, PAYLOAD-OUT}
+use Rattle.answers.specs.Missing.{payloadOut}
 use Rattle.aec.specs.declared.State.{State}
 use Rattle.contexts.specs.declared.Context.{Context}
 use Rattle.aec.specs.declared.Refusal.{Refusal}
@@ -15,24 +16,25 @@ use Rattle.aec.specs.declared.Decoded.the-variants as decoded
 use Rattle.aec.specs.declared.DecodedPair.{DecodedPair}
 use Rattle.aec.specs.declared.DecodedPair.the-variants as decoded-pair
 
--- a refusal's number, and what it carries: PAYLOAD OUT how many bits were missing
+-- the start: PAYLOAD OUT carries how many bits were missing
+abbrev pub startedSays : Started → Outcome State
+startedSays (started.Done x) = done x
+startedSays started.TooLong = refused TOO-LONG []
+startedSays (started.PayloadOut m) = payloadOut m
+
+-- a bin's refusal, by its number and what it carries: PAYLOAD OUT is for want of one bit
 abbrev pub refusalNumber : Refusal → ℕ
 refusalNumber refusal.TooLong = TOO-LONG
 refusalNumber refusal.BadState = BAD-STATE
-refusalNumber (refusal.PayloadOut m) = PAYLOAD-OUT
+refusalNumber refusal.PayloadOut = PAYLOAD-OUT
 
 abbrev pub refusalCarries : Refusal → List Carried
 refusalCarries refusal.TooLong = []
 refusalCarries refusal.BadState = []
-refusalCarries (refusal.PayloadOut m) = missing m ∷ []
+refusalCarries refusal.PayloadOut = missing 1 ∷ []
 
 abbrev pub refusalSays : {A : Type 0} → Refusal → Outcome A
 refusalSays r = refused (refusalNumber r) (refusalCarries r)
-
--- the start
-abbrev pub startedSays : Started → Outcome State
-startedSays (started.Done x) = done x
-startedSays (started.Refused r) = refusalSays r
 
 -- bypass and the stuffing bin: a bin and the next state
 abbrev pub steppedSays : Stepped → Outcome (ℕ × State)

@@ -11,7 +11,7 @@ ghost use Rattle.aec.specs.Bins.{doubleOf, normaliseOf, widenOf, settleO
 ghost use Rattle.aec.specs.Bins.{splitOf, missesOf, remainderOf, unpredictedOf, binOf};
 ghost use Rattle.aec.specs.Bins.{pairOf, plainOf, bypassOf, stuffingOf, decodeOf, decodePairOf};
 ghost use Rattle.aec.specs.Says.{startedSays, steppedSays, decodedSays, decodedPairSays};
-ghost use Rattle.aec.specs.Inside.{checkedSays, doubledSays, shiftedSays, SplitRanges};
+ghost use Rattle.aec.specs.Inside.{checkedSays, doubledSays, shiftedSays, settledSays, SplitRanges};
 use bits::Bit;
 use bits::Read;
 use contexts::Context;
@@ -26,16 +26,18 @@ pub struct State {
     pub place: usize,
 }
 
-// PayloadOut has how many bits were missing. A refusal carries nothing else: state and contexts are the caller's own.
-pub enum Refusal {
+// What a start answers; PayloadOut with how many bits were missing.
+pub enum Started {
+    Done(State),
     TooLong,
-    BadState,
     PayloadOut(u32),
 }
 
-pub enum Started {
-    Done(State),
-    Refused(Refusal),
+// A bin is refused: PayloadOut for want of one bit, since it reads bit by bit. State and contexts are the caller's own.
+pub enum Refusal {
+    TooLong,
+    BadState,
+    PayloadOut,
 }
 
 // A bin and the next state.
@@ -79,6 +81,12 @@ enum Shifted {
     Refused(Refusal),
 }
 
+// The state of a normalised value.
+enum Settled {
+    Done(State),
+    Refused(Refusal),
+}
+
 // s, t and R of a bin.
 struct Split {
     s: u32,
@@ -119,6 +127,15 @@ fn good_state(x: State, end: usize) -> bool
     true
 }
 
+// The number of the payload's bits.
+fn bit_length(bytes: &[u8], count: usize) -> usize
+    requires { ⌜ length (now bytes) ≤ longestPayload ⌝ }
+    ensures { λ r. ⌜ r ≡ length (payload (now (bytes .entry)) count) ⌝ }
+{
+    let all = bytes.len() * 8;
+    if count < all { count } else { all }
+}
+
 // What is refused before a bit is read.
 fn guard(bytes: &[u8], count: usize, x: State, contexts: bool) -> Checked
     ensures { λ r. ⌜ checkedSays r ≡ refusedFirst (now (bytes .entry)) count x contexts ⌝ }
@@ -126,7 +143,7 @@ fn guard(bytes: &[u8], count: usize, x: State, contexts: bool) -> Checked
     if LIMIT < bytes.len() {
         return Checked::Refused(Refusal::TooLong);
     }
-    let end = bits::bits_held(bytes, count);
+    let end = bit_length(bytes, count);
     if !good_state(x, end) {
         return Checked::Refused(Refusal::BadState);
     }
@@ -144,7 +161,7 @@ fn take_bit(bytes: &[u8], count: usize, value: u32, place: usize) -> Doubled
     let twice = value * 2;
     match bits::read_bit(bytes, count, place) {
         Bit::Is(bit) => Doubled::Done(twice + bit, place + 1),
-        Bit::Missing => Doubled::Refused(Refusal::PayloadOut(1)),
+        Bit::Missing => Doubled::Refused(Refusal::PayloadOut),
     }
 }
 
@@ -203,19 +220,19 @@ fn widen(bytes: &[u8], count: usize, value: u32, range: u32, place: usize) -> Sh
 }
 
 // The state of a normalised value.
-fn settle(bytes: &[u8], count: usize, rt: u32, value: u32, place: usize) -> Started
+fn settle(bytes: &[u8], count: usize, rt: u32, value: u32, place: usize) -> Settled
     requires { ⌜ (length (now bytes) ≤ longestPayload) × (place ≤ length (payload (now bytes) count)) × (value < 1048576) ⌝ }
-    ensures { λ r. ⌜ startedSays r ≡ settleOf (payload (now (bytes .entry)) count) rt value place ⌝ }
+    ensures { λ r. ⌜ settledSays r ≡ settleOf (payload (now (bytes .entry)) count) rt value place ⌝ }
 {
     match normalise(bytes, count, value, place) {
-        Shifted::Done(z) => Started::Done(State {
+        Shifted::Done(z) => Settled::Done(State {
             rs: 0,
             rt: rt,
             vs: z.beside,
             vt: z.value % 256,
             place: z.place,
         }),
-        Shifted::Refused(r) => Started::Refused(r),
+        Shifted::Refused(r) => Settled::Refused(r),
     }
 }
 
@@ -224,12 +241,15 @@ pub fn start(bytes: &[u8], count: usize) -> Started
     ensures { λ r. ⌜ startedSays r ≡ startOf (now (bytes .entry)) count ⌝ }
 {
     if LIMIT < bytes.len() {
-        return Started::Refused(Refusal::TooLong);
+        return Started::TooLong;
     }
     match bits::read_bits(bytes, count, 0, 9) {
-        Read::Value(value) => settle(bytes, count, 255, value, 9),
-        Read::Missing(missing) => Started::Refused(Refusal::PayloadOut(missing)),
-        Read::TooWide => Started::Refused(Refusal::TooLong), // never: nine bits are asked for
+        Read::Value(value) => match settle(bytes, count, 255, value, 9) {
+            Settled::Done(state) => Started::Done(state),
+            Settled::Refused(_) => Started::PayloadOut(1), // it wants bits one by one, and refuses for nothing else
+        },
+        Read::Missing(missing) => Started::PayloadOut(missing),
+        Read::TooWide => Started::TooLong, // never: nine bits are asked for
     }
 }
 
@@ -278,16 +298,16 @@ fn remainder(bytes: &[u8], count: usize, x: State, y: Split) -> Doubled
 }
 
 // The state after a bin that was not predicted.
-fn unpredicted(bytes: &[u8], count: usize, x: State, y: Split) -> Started
+fn unpredicted(bytes: &[u8], count: usize, x: State, y: Split) -> Settled
     requires { ⌜ (length (now bytes) ≤ longestPayload) × (goodState (length (payload (now bytes) count)) x ≡ true) × (missesOf x y ≡ true) × SplitRanges y ⌝ }
-    ensures { λ r. ⌜ startedSays r ≡ unpredictedOf (payload (now (bytes .entry)) count) x y ⌝ }
+    ensures { λ r. ⌜ settledSays r ≡ unpredictedOf (payload (now (bytes .entry)) count) x y ⌝ }
 {
     match remainder(bytes, count, x, y) {
         Doubled::Done(value, place) => match widen(bytes, count, value, y.range, place) {
             Shifted::Done(z) => settle(bytes, count, z.beside % 256, z.value, z.place),
-            Shifted::Refused(r) => Started::Refused(r),
+            Shifted::Refused(r) => Settled::Refused(r),
         },
-        Doubled::Refused(r) => Started::Refused(r),
+        Doubled::Refused(r) => Settled::Refused(r),
     }
 }
 
@@ -298,8 +318,8 @@ fn step(bytes: &[u8], count: usize, x: State, p: u32, y: Split) -> Stepped
 {
     if misses(x, y) {
         return match unpredicted(bytes, count, x, y) {
-            Started::Done(z) => Stepped::Done(1 - p, z),
-            Started::Refused(r) => Stepped::Refused(r),
+            Settled::Done(z) => Stepped::Done(1 - p, z),
+            Settled::Refused(r) => Stepped::Refused(r),
         };
     }
     Stepped::Done(

@@ -41,7 +41,7 @@ pub fn read_bit(bytes: &[u8], count: usize, place: usize) -> Bit
 }
 
 // How many bits the payload has. The count is divided, as the place is above.
-pub fn bits_held(bytes: &[u8], count: usize) -> usize
+fn bits_held(bytes: &[u8], count: usize) -> usize
     ensures { λ r. ⌜ r ≡ length (payload (now (bytes .entry)) count) ⌝ }
 {
     if count / 8 < bytes.len() {

@@ -140,7 +140,7 @@ fn bin_number(why: aec::Refusal) -> u32
     match why {
         aec::Refusal::TooLong => 13,
         aec::Refusal::BadState => 15,
-        aec::Refusal::PayloadOut(_) => 14,
+        aec::Refusal::PayloadOut => 14,
     }
 }
 
@@ -150,7 +150,17 @@ fn bits_missing(why: aec::Refusal) -> u32
     match why {
         aec::Refusal::TooLong => 0,
         aec::Refusal::BadState => 0,
-        aec::Refusal::PayloadOut(missing) => missing,
+        aec::Refusal::PayloadOut => 1,
+    }
+}
+
+fn not_begun(status: u32, missing: u32, state: State) -> Begun
+    ensures { λ r. ⌜ r ≡ record { status = status; missing = missing; state = state } ⌝ }
+{
+    Begun {
+        status: status,
+        missing: missing,
+        state: state,
     }
 }
 
@@ -164,11 +174,8 @@ pub fn start(bytes: &[u8], bits: usize, state: State) -> Begun
             missing: 0,
             state: next,
         },
-        Started::Refused(why) => Begun {
-            status: bin_number(why),
-            missing: bits_missing(why),
-            state: state,
-        },
+        Started::TooLong => not_begun(13, 0, state),
+        Started::PayloadOut(missing) => not_begun(14, missing, state),
     }
 }
 

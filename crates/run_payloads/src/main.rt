@@ -137,7 +137,7 @@ fn bins(bytes: &[u8], x: State, n: u32) {
 fn refusal(why: aec::Refusal) {
     match why {
         aec::Refusal::TooLong => number(13),
-        aec::Refusal::PayloadOut(missing) => out(missing),
+        aec::Refusal::PayloadOut => out(1),
         aec::Refusal::BadState => number(15),
     }
 }
@@ -146,7 +146,8 @@ fn example_bins(n: u32, bytes: &[u8], count: u32) {
     example(n);
     match aec::start(bytes, 24) {
         Started::Done(x) => bins(bytes, x, count),
-        Started::Refused(why) => refusal(why),
+        Started::TooLong => number(13),
+        Started::PayloadOut(missing) => out(missing),
     }
     end();
 }

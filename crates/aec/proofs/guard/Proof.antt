@@ -13,8 +13,8 @@ use Rattle.aec.proofs.guard.Tie as tie
 returns : tie.Need-returns
 returns c = let a = c .before .before .args in first-long (a .bytes .now) (a .count) (a .x) (a .contexts) (c .if1 .taken)
 
-bits-held-requires : tie.Need-bits-held-requires
-bits-held-requires c κs = search needs
+bit-length-requires : tie.Need-bit-length-requires
+bit-length-requires c κs = search needs
 
 good-state-requires : tie.Need-good-state-requires
 good-state-requires c κs = search needs
@@ -26,7 +26,7 @@ tested c = let a = c .before .before .before .before .args in goodState (length 
 state : (c : tie.After-good-state) → tested c ≡ c .good-state .result
 state c =
     let a = c .before .before .before .before .args in
-    sym (c .good-state .ensures ∙ ap (λ n. goodState n (a .x)) (c .before .bits-held .ensures))
+    sym (c .good-state .ensures ∙ ap (λ n. goodState n (a .x)) (c .before .bit-length .ensures))
 
 returns-2 : tie.Need-returns-2
 returns-2 c =
@@ -50,4 +50,4 @@ returns-4 c =
 pub guard-spec : {M : Type 1} → statement M
 guard-spec =
     tie.close
-    (tie.spec returns bits-held-requires good-state-requires returns-2 returns-3 returns-4)
+    (tie.spec returns bit-length-requires good-state-requires returns-2 returns-3 returns-4)

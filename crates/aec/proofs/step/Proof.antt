@@ -1,6 +1,6 @@
 -- A bin that was predicted, or was not.
 use mathlib.Core.Path.{sym, ap, _∙_}
-use Rattle.aec.specs.Says.{startedSays}
+use Rattle.aec.specs.Inside.{settledSays}
 use Rattle.aec.proofs.StepLaws.{bin-hit, bin-miss, bin-stops}
 use borrow.Author.Needs.{needs}
 use Rattle.aec.proofs.step.Statement.{statement}
@@ -26,12 +26,12 @@ enum-known-r c = search needs
 returns : tie.Need-returns
 returns c =
     let u = c .before .before .before in
-    bin-miss _ _ _ _ _ (sym (u .before .before .misses .ensures) ∙ u .before .if1 .taken) (ap startedSays (sym (c .before .z .given .1)) ∙ u .unpredicted .ensures)
+    bin-miss _ _ _ _ _ (sym (u .before .before .misses .ensures) ∙ u .before .if1 .taken) (ap settledSays (sym (c .before .z .given .1)) ∙ u .unpredicted .ensures)
 
 returns-2 : tie.Need-returns-2
 returns-2 c =
     let u = c .before .before .before in
-    bin-stops _ _ _ _ (c .before .r .given .0 .0) (sym (u .before .before .misses .ensures) ∙ u .before .if1 .taken) (ap startedSays (sym (c .before .r .given .1)) ∙ u .unpredicted .ensures)
+    bin-stops _ _ _ _ (c .before .r .given .0 .0) (sym (u .before .before .misses .ensures) ∙ u .before .if1 .taken) (ap settledSays (sym (c .before .r .given .1)) ∙ u .unpredicted .ensures)
 
 returns-3 : tie.Need-returns-3
 returns-3 c = bin-hit _ _ _ _ (sym (c .before .misses .ensures) ∙ c .if1 .left)

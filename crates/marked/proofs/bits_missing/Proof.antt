@@ -1,4 +1,4 @@
--- PAYLOAD OUT carries its count; for the others none is missing.
+-- PAYLOAD OUT is for want of one bit; for the others none is missing.
 use mathlib.Core.Path.{sym, ap}
 use Rattle.answers.specs.Missing.{missingIn}
 use Rattle.aec.specs.Says.{refusalCarries}
@@ -16,4 +16,4 @@ bits-missing-spec =
     (λ c. search needs)
     (λ c. sym (ap (λ (r : Refusal). missingIn (refusalCarries r)) (c .enum-told .given .1)))
     (λ c. sym (ap (λ (r : Refusal). missingIn (refusalCarries r)) (c .enum-told2 .given .1)))
-    (λ c. sym (ap (λ (r : Refusal). missingIn (refusalCarries r)) (c .before .why .given .1))))
+    (λ c. sym (ap (λ (r : Refusal). missingIn (refusalCarries r)) (c .enum-told3 .given .1))))
