@@ -193,6 +193,20 @@ pub struct Decoders<'a> {
     pub wrappers: [&'a Decoder; 2],
 }
 
+impl<'a> Decoders<'a> {
+    /// These, with another library.
+    pub fn with_library(self, library: &'a Decoder) -> Decoders<'a> {
+        Decoders { library, ..self }
+    }
+
+    /// These, with another wrapper in the place of one.
+    pub fn with_wrapper(self, which: usize, wrapper: &'a Decoder) -> Decoders<'a> {
+        let mut wrappers = self.wrappers;
+        wrappers[which] = wrapper;
+        Decoders { wrappers, ..self }
+    }
+}
+
 /// A comparison under way.
 pub(crate) struct Comparison<'a> {
     decoders: Decoders<'a>,

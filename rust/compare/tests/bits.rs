@@ -167,10 +167,7 @@ fn found(slip: Slip, decoders: Decoders) -> Vec<&'static str> {
 #[test]
 fn every_slip_is_found_in_each_question() {
     let library = slip_in(&LIBRARY);
-    let decoders = Decoders {
-        library: &library,
-        ..DECODERS
-    };
+    let decoders = DECODERS.with_library(&library);
     assert!(found(Slip::Nothing, decoders).is_empty());
     for slip in slips() {
         assert!(!expected(slip).is_empty(), "{:?}", slip);
@@ -183,10 +180,8 @@ fn every_slip_is_found_in_each_question() {
 fn every_lost_bit_of_either_wrapper_is_found() {
     for which in 0..2 {
         let wrapper = slip_in(DECODERS.wrappers[which]);
-        let mut wrappers = DECODERS.wrappers;
-        wrappers[which] = &wrapper;
+        let decoders = DECODERS.with_wrapper(which, &wrapper);
         for slip in slips().into_iter().filter(|slip| matches!(slip, Slip::Lost(_))) {
-            let decoders = Decoders { wrappers, ..DECODERS };
             assert_eq!(found(slip, decoders), expected(slip), "{:?} by wrapper {}", slip, which);
         }
     }

@@ -356,11 +356,7 @@ fn every_slip_is_found() {
     for (name, slip) in SLIPS {
         let mut library = LIBRARY;
         slip(&mut library);
-        let decoders = Decoders {
-            library: &library,
-            ..DECODERS
-        };
-        let report = small(decoders, 1);
+        let report = small(DECODERS.with_library(&library), 1);
         assert!(report.differences > 0, "{}", name);
         assert!(report.to_string().contains("difference: "), "{}", name);
     }
@@ -371,8 +367,6 @@ fn a_slip_of_either_wrapper_is_found() {
     for which in 0..2 {
         let mut wrapper = *DECODERS.wrappers[which];
         wrapper.file = last_row;
-        let mut wrappers = DECODERS.wrappers;
-        wrappers[which] = &wrapper;
-        assert!(small(Decoders { wrappers, ..DECODERS }, 1).differences > 0);
+        assert!(small(DECODERS.with_wrapper(which, &wrapper), 1).differences > 0);
     }
 }

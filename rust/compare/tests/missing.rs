@@ -270,10 +270,7 @@ fn found(slip: Slip, decoders: Decoders) -> Vec<&'static str> {
 #[test]
 fn every_slip_is_found_in_each_question() {
     let library = slip_in(&LIBRARY);
-    let decoders = Decoders {
-        library: &library,
-        ..DECODERS
-    };
+    let decoders = DECODERS.with_library(&library);
     assert!(found(Slip::Nothing, decoders).is_empty());
     for slip in slips() {
         assert_eq!(found(slip, decoders), slip.shows_in(), "{:?}", slip);
@@ -285,10 +282,8 @@ fn every_slip_is_found_in_each_question() {
 fn every_other_count_of_either_wrapper_is_found() {
     for which in 0..2 {
         let wrapper = slip_in(DECODERS.wrappers[which]);
-        let mut wrappers = DECODERS.wrappers;
-        wrappers[which] = &wrapper;
+        let decoders = DECODERS.with_wrapper(which, &wrapper);
         for slip in MISSING_OF_NUMBERS.map(Slip::OneMore) {
-            let decoders = Decoders { wrappers, ..DECODERS };
             assert_eq!(found(slip, decoders), slip.shows_in(), "{:?} by wrapper {}", slip, which);
         }
     }
