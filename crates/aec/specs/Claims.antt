@@ -24,7 +24,7 @@ pub data Runs {A : Type 0} : Outcome A → Type 0 where
   runs-done : {value : A} → Runs (done value)
   runs-out : Runs (payloadOut 1)
 
--- exactly when each refusal is given: TOO LONG, then BAD STATE, and past these only PAYLOAD OUT, which has one bit missing always
+-- exactly when each refusal is given: TOO LONG, then BAD STATE, and past these only PAYLOAD OUT, always with one bit missing
 pub record Refuses {A : Type 0} (bytes : List ℕ) (count : ℕ) (x : State) (contexts : Bool) (o : Outcome A) : Type 0 where
   pub long : (o ≡ refused TOO-LONG []) ↔ (longestPayload < length bytes)
   pub bad : (o ≡ refused BAD-STATE []) ↔ ((length bytes ≤ longestPayload) × ((goodState (length (payload bytes count)) x && contexts) ≡ false))

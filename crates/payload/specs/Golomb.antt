@@ -36,8 +36,8 @@ pub record TooManyZeros (bits : List ℕ) (place : ℕ) : Type 0 where
   pub rest : List ℕ
   pub there : drop place bits ≡ replicate 32 0 ++ rest
 
--- They end before the 1, and so many are missing: zeros and the 1 are read bit by bit, so one is. Or before the z bits after it, which
--- are one read: z less what is left.
+-- they end first, and so many are missing: before the 1, which is read bit by bit as the zeros are, one; before the z bits after it,
+-- which are one read, z less what is left
 pub data EndsFirst (bits : List ℕ) (place : ℕ) : ℕ → Type 0 where
   before-one : (z : ℕ) → z ≤ 31 → drop place bits ≡ replicate z 0 → EndsFirst bits place 1
   after-one : (z : ℕ) (rest : List ℕ) → z ≤ 31 → drop place bits ≡ replicate z 0 ++ (1 ∷ rest) → length rest < z → EndsFirst bits place (z - length rest)
