@@ -11,11 +11,13 @@ use lib.ListN.{length, replicate}
 use Rattle.answers.specs.Answers.{Carried, missing, Outcome, done, refused, TOO-LONG, BAD-STATE, PAYLOAD-OUT, andThen, OneToOne}
 use Rattle.answers.specs.Limits.{longestPayload}
 use Rattle.answers.specs.Missing.{payloadOut, SaysMissing, says-done, says-none, says-out, missingIn}
-use Rattle.answers.specs.Results.{Result, good, bad}
+use Rattle.answers.specs.Results.{good}
 use Rattle.bits.specs.Bits.{payload, readAt, readOr}
 use Rattle.bits.proofs.TestLaws.{by-test, and-true}
 use Rattle.bits.proofs.BitLaws.{all-payload, leading}
 use Rattle.bits.proofs.Main.{missing-exactly}
+use Rattle.bits.proofs.ReadLaws.{read-there}
+use Rattle.bits.proofs.LimitLaws.{of-bits, long-exactly, says-whole}
 use Rattle.contexts.specs.Contexts.{goodContext, updateOf}
 use Rattle.aec.specs.Bins.{goodState, withinLimit, refusedFirst, noBit, normaliseOf, settleOf, startOf, stepOf, pairOf, plainOf, decodeOf, decodePairOf}
 use Rattle.aec.specs.Says.{refusalSays, startedSays, steppedSays, decodedSays, decodedPairSays}
@@ -213,32 +215,24 @@ module _ (bytes : List ℕ) (count : ℕ) where
   abbrev starting : Outcome State
   starting = readOr (λ vt. settleOf (payload bytes count) 255 vt 9) payloadOut (readAt (payload bytes count) 0 9)
 
-  start-past : length bytes ≤ longestPayload → starting ≡ startOf bytes count
+  within : length bytes ≤ longestPayload → startOf bytes count ≡ starting
   unfolding startOf
-  start-past h = limit-kept bytes starting h
+  within h = sym (limit-kept bytes starting h)
 
-  start-over : longestPayload < length bytes → refused TOO-LONG [] ≡ startOf bytes count
+  over : longestPayload < length bytes → startOf bytes count ≡ refused TOO-LONG []
   unfolding startOf
-  start-over h = limit-passed bytes starting h
+  over h = sym (limit-passed bytes starting h)
 
   abbrev bits : List ℕ
   bits = payload bytes count
-
-  -- the nine bits are there
-  nine-read : 9 ≤ length bits → (v : ℕ) × (readAt bits 0 9 ≡ good v)
-  nine-read h = by (readAt bits 0 9) refl
-    where
-      by : (r : Result ℕ ℕ) → readAt bits 0 9 ≡ r → (v : ℕ) × (readAt bits 0 9 ≡ good v)
-      by (good v) e = (v, e)
-      by (bad m) e = let few = missing-exactly bits 0 9 m .0 e .0 in absurd (omega arith)
 
   settled : (v : ℕ) (o : Outcome Shift) → readAt bits 0 9 ≡ good v → normaliseOf bits v 9 ≡ o → starting ≡ andThen o (λ z. done (record { rs = 0; rt = 255; vs = z .beside; vt = z .value % 256; place = z .place }))
   settled v o r e = rw (r, e)
 
   lacks-answers : {m : ℕ} → LacksStart bits m → starting ≡ payloadOut m
   lacks-answers (of-nine few) = rw (missing-exactly bits 0 9 (9 - length bits) .1 (omega arith, omega arith))
-  lacks-answers (no-one many z e) = let (v, r) = nine-read many in settled v noBit r (lacks-one bits v (all-payload bytes count) r z e)
-  lacks-answers (few-after many z rest e few) = let (v, r) = nine-read many in settled v noBit r (lacks-after bits v (all-payload bytes count) r z rest e few)
+  lacks-answers (no-one many z e) = let (v, r) = read-there bits 0 9 (omega arith) in settled v noBit r (lacks-one bits v (all-payload bytes count) r z e)
+  lacks-answers (few-after many z rest e few) = let (v, r) = read-there bits 0 9 (omega arith) in settled v noBit r (lacks-after bits v (all-payload bytes count) r z rest e few)
 
   -- it lacks bits, or is done
   abbrev Starts : Type 0
@@ -249,7 +243,7 @@ module _ (bytes : List ℕ) (count : ℕ) where
   starts-from many n (inr (rest, e)) =
       by-test (leb 8 (length rest))
       (λ t.
-      let (v, r) = nine-read many in
+      let (v, r) = read-there bits 0 9 (omega arith) in
       let (w, d) = ends-after bits v (all-payload bytes count) r n rest e (leb-true _ _ t) in
       inl (_, settled v (done w) r d))
       (λ f. inr (1, few-after many n rest e (leb-false _ _ f)))
@@ -259,15 +253,8 @@ module _ (bytes : List ℕ) (count : ℕ) where
       by-test (leb 9 (length bits)) (λ t. let l = leading bits (all-payload bytes count) in starts-from (leb-true _ _ t) (l .0) (l .1))
       (λ f. inr (9 - length bits, of-nine (leb-false _ _ f)))
 
-  by-limit : {P : Type 0} (o : Outcome State) → startOf bytes count ≡ o → (refused TOO-LONG [] ≡ o → P) → (length bytes ≤ longestPayload → starting ≡ o → P) → P
-  by-limit o e over under =
-      by-test (leb (length bytes) longestPayload) (λ t. under (leb-true _ _ t) (start-past (leb-true _ _ t) ∙ e)) (λ f. over (start-over (leb-false _ _ f) ∙ e))
-
   pub start-long : (startOf bytes count ≡ refused TOO-LONG []) ↔ (longestPayload < length bytes)
-  start-long = (
-    λ e. by-test (leb (length bytes) longestPayload) (λ t. absurd (never (start-past (leb-true _ _ t) ∙ e) starts)) (λ f. leb-false _ _ f),
-    λ h. sym (start-over h),
-  )
+  start-long = long-exactly bytes (startOf bytes count) starting within over (λ q. never q starts)
     where
       never : starting ≡ refused TOO-LONG [] → Starts → ⊥
       never q (inl (x, e)) = not-refused (sym e ∙ q)
@@ -275,8 +262,10 @@ module _ (bytes : List ℕ) (count : ℕ) where
 
   pub start-out : (m : ℕ) → (startOf bytes count ≡ payloadOut m) ↔ ((length bytes ≤ longestPayload) × LacksStart bits m)
   start-out m = (
-    λ e. by-limit (payloadOut m) e (λ q. other-number q (λ z. omega arith)) (λ h q. (h, out q starts)),
-    λ c. sym (start-past (c .0)) ∙ lacks-answers (c .1),
+    λ e.
+        let (h, q) = of-bits bytes (startOf bytes count) starting within over (payloadOut m) e (λ q. other-number q (λ z. omega arith)) in
+        (h, out q starts),
+    λ c. within (c .0) ∙ lacks-answers (c .1),
   )
     where
       out : starting ≡ payloadOut m → Starts → LacksStart bits m
@@ -292,9 +281,7 @@ module _ (bytes : List ℕ) (count : ℕ) where
   start-range m e = lacks-range (start-out m .0 e .1)
 
   pub start-missing : SaysMissing (startOf bytes count)
-  start-missing =
-      by-test (leb (length bytes) longestPayload) (λ t. subst SaysMissing (start-past (leb-true _ _ t)) (said starts))
-      (λ f. subst SaysMissing (start-over (leb-false _ _ f)) (says-none TOO-LONG (λ z. omega arith)))
+  start-missing = says-whole bytes (startOf bytes count) starting within over (said starts)
     where
       said : Starts → SaysMissing starting
       said (inl (x, e)) = subst SaysMissing (sym e) (says-done x)
@@ -308,7 +295,7 @@ module _ (bytes : List ℕ) (count : ℕ) (others : List ℕ) (number : ℕ) (s 
   first-same x contexts = simp (le-leb _ _ (s .short), le-leb _ _ (s .shorter), s .same)
 
   pub start-same : startOf bytes count ≡ startOf others number
-  start-same = sym (start-past bytes count (s .short)) ∙ rw (s .same) (start-past others number (s .shorter))
+  start-same = within bytes count (s .short) ∙ rw (s .same) (sym (within others number (s .shorter)))
 
   pub plain-same : (x : State) (lg : ℕ) → plainOf bytes count x lg ≡ plainOf others number x lg
   plain-same x lg = rw (first-same x true, s .same)

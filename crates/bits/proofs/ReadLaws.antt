@@ -1,5 +1,5 @@
 -- When the one read succeeds, and when bits are missing.
-use Prim.Native.Nat.{ℕ, _-_, _^_, _<_}
+use Prim.Native.Nat.{ℕ, _-_, _^_, _≤_, _<_}
 use mathlib.Core.Path.{_≡_, refl, sym, ap, _∙_}
 use mathlib.Core.Logic.{_↔_}
 use mathlib.Core.List.{List, [], _∷_}
@@ -39,6 +39,14 @@ missing-exactly bits place width m =
           let e : width - length (drop place bits) ≡ m = omega arith in
           lacks-read 0 width (drop place bits) (omega arith) ∙ ap bad e,
     )
+
+-- where enough bits are left a number is read
+pub read-there : (bits : List ℕ) (place width : ℕ) → width ≤ length bits - place → (v : ℕ) × (readAt bits place width ≡ good v)
+read-there bits place width h = by (readAt bits place width) refl
+  where
+    by : (r : Result ℕ ℕ) → readAt bits place width ≡ r → (v : ℕ) × (readAt bits place width ≡ good v)
+    by (good v) e = (v, e)
+    by (bad m) e = let few = missing-exactly bits place width m .0 e .0 in absurd (omega arith)
 
 -- a single bit
 pub bit-missing-one : (bits : List ℕ) (place : ℕ) → (bitAt bits place ≡ bit.Missing) ↔ (readAt bits place 1 ≡ bad 1)

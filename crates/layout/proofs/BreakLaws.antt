@@ -10,16 +10,15 @@ use lib.Dec.{eqb, ltb}
 use lib.ListN.{length, take, drop, take-append-drop}
 use lib.Seq.{take-at, drop-at}
 use Rattle.answers.proofs.ResultLaws.{not-bad, bad-same}
-use Rattle.bits.specs.Bits.{bitsOf, readAt}
+use Rattle.bits.specs.Bits.{bitsOf}
 use Rattle.bits.proofs.TestLaws.{by-test, contrary}
 use Rattle.bits.proofs.BitLaws.{length-bits}
-use Rattle.bits.proofs.Main.{missing-exactly}
+use Rattle.bits.proofs.ReadLaws.{read-there}
 use Rattle.layout.specs.Layouts.{widthOf, ruleOf, Allowed, Keeps, Wrong, fields, bitCount, leastBytes}
 use Rattle.layout.specs.Values.{Ownership, ownership}
 use Rattle.layout.specs.Obeys.{Fits, AllAllowed, written}
 use Rattle.layout.specs.Breaks.{Holds, FirstWrong, Disowned, unflagged, unowned, BreaksAcross, Breaks, short, wrong, across, ended}
 use Rattle.layout.specs.Reader.{allows, ruled, Result, _>>_, refuseIf, both, valuesOf, judge, ownerRules, ownedBy, cross, judged, stuffing, reading}
-use Rattle.answers.specs.Results as results
 use Rattle.answers.specs.Results.{good, bad, _>>=_}
 use Rattle.layout.specs.Reader as reader
 use Rattle.layout.specs.declared.JudgedField.the-variants.{CopyrightOwner, CopyrightNumber}
@@ -41,14 +40,10 @@ use Rattle.layout.proofs.ObeyLaws.{fine-then, both-fine, read-written, 
 
 -- ── a body that is long enough has all its values ──
 
-read-there : (l : List ℕ) (at w : ℕ) → at + w ≤ length l → (x : results.Result ℕ ℕ) → readAt l at w ≡ x → (v : ℕ) × (readAt l at w ≡ good v)
-read-there l at w h (good v) e = (v, e)
-read-there l at w h (bad m) e = let few = missing-exactly l at w m .0 e .0 in absurd (omega arith)
-
 values-there : (l : List ℕ) (fs : List Field) (at : ℕ) → at + bitCount fs ≤ length l → (vs : List ℕ) × (valuesOf fs at l ≡ good vs)
 values-there l [] at h = ([], unfold valuesOf in refl)
 values-there l (f ∷ fs) at h =
-    let v = read-there l at (widthOf f) (omega arith) (readAt l at (widthOf f)) refl in
+    let v = read-there l at (widthOf f) (omega arith) in
     let vs = values-there l fs (at + widthOf f) (omega arith) in
     (v .0 ∷ vs .0, values-first (f ∷ fs) fs f at (v .0) l refl (v .1) ∙ ap (λ (r : Result (List ℕ)). r >>= (λ us. good (v .0 ∷ us))) (vs .1))
 

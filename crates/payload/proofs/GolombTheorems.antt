@@ -12,13 +12,14 @@ use lib.Seq.{drop-drop, take-append-seam}
 use Rattle.answers.specs.Answers.{Outcome, done, refused, mapDone, VALUE, TOO-LONG}
 use Rattle.answers.specs.Limits.{longestPayload}
 use Rattle.answers.specs.Missing.{payloadOut, SaysMissing, says-done, says-none, says-out}
-use Rattle.answers.specs.Results.{Result, good, bad}
-use Rattle.bits.specs.Bits.{bitsIn, payload, readAt}
+use Rattle.bits.specs.Bits.{bitsIn, payload}
 use Rattle.bits.proofs.ListLaws.{all-drop}
 use Rattle.bits.proofs.TestLaws.{by-test}
 use Rattle.answers.proofs.OutcomeLaws.{not-done, done-one, other-number, out-same, says-mapped}
 use Rattle.bits.proofs.BitLaws.{Binary, all-payload, length-in, leading}
 use Rattle.bits.proofs.Main.{read-exactly, missing-exactly}
+use Rattle.bits.proofs.ReadLaws.{read-there}
+use Rattle.bits.proofs.LimitLaws.{of-bits, long-exactly, says-whole}
 use Rattle.payload.specs.Golomb.{Numbered, withSign, Coded, TooManyZeros, EndsFirst, before-one, after-one}
 use Rattle.payload.specs.Reader.{zerosOn, numberOf, golombAfter, golomb, signedGolomb}
 use Rattle.payload.specs.declared.Zeros.the-variants.{Before, TooMany, Missing}
@@ -108,10 +109,12 @@ module _ (bytes : List ℕ) (count place : ℕ) where
   Begins = ((m : Numbered ℕ) × Coded bits place m) ⊎ (TooManyZeros bits place ⊎ ((m : ℕ) × EndsFirst bits place m))
 
   -- the z bits after the 1 are there, and have a value
-  suffix : (z : ℕ) (rest : List ℕ) → z ≤ 31 → drop place bits ≡ replicate z 0 ++ (1 ∷ rest) → z ≤ length rest → (r : Result ℕ ℕ) → readAt bits (place + z + 1) z ≡ r → (m : Numbered ℕ) × Coded bits place m
-  suffix z rest h e k (good b) q =
-      let x = read-exactly bytes count (place + z + 1) z b .0 q in
+  suffix : (z : ℕ) (rest : List ℕ) → z ≤ 31 → drop place bits ≡ replicate z 0 ++ (1 ∷ rest) → z ≤ length rest → (m : Numbered ℕ) × Coded bits place m
+  suffix z rest h e k =
       let d = after-code z rest e in
+      let l = sym (length-drop (place + z + 1) bits) ∙ ap length d in
+      let (b, q) = read-there bits (place + z + 1) z (omega arith) in
+      let x = read-exactly bytes count (place + z + 1) z b .0 q in
       let t = ap (take z) (sym d) ∙ x .1 in (
         record { number = 2 ^ z - 1 + b; next = place + z + 1 + z },
         record {
@@ -124,11 +127,6 @@ module _ (bytes : List ℕ) (count place : ℕ) where
           is = refl;
         },
       )
-  suffix z rest h e k (bad m) q =
-      let x = missing-exactly bits (place + z + 1) z m .0 q .0 in
-      let d = ap length (after-code z rest e) in
-      let l = length-drop (place + z + 1) bits in
-      absurd (omega arith)
 
   begins-from : (n : ℕ) → (drop place bits ≡ replicate n 0) ⊎ ((rest : List ℕ) × (drop place bits ≡ replicate n 0 ++ (1 ∷ rest))) → Begins
   begins-from n (inl e) =
@@ -138,7 +136,7 @@ module _ (bytes : List ℕ) (count place : ℕ) where
       by-test (leb n 31)
       (λ t.
       by-test (ltb (length rest) n) (λ u. inr (inr (n - length rest, after-one n rest (leb-true _ _ t) e (ltb-true _ _ u))))
-      (λ g. inl (suffix n rest (leb-true _ _ t) e (ltb-false _ _ g) (readAt bits (place + n + 1) n) refl)))
+      (λ g. inl (suffix n rest (leb-true _ _ t) e (ltb-false _ _ g))))
       (λ f.
       inr (inl (record {
         rest = replicate (n - 32) 0 ++ (1 ∷ rest);
@@ -154,29 +152,30 @@ module _ (bytes : List ℕ) (count place : ℕ) where
   within : length bytes ≤ longestPayload → golomb bytes count place ≡ answer
   within h = sym (golomb-after bytes count place _ h refl)
 
-  by-limit : {P : Type 0} (o : Outcome (Numbered ℕ)) → golomb bytes count place ≡ o → (refused TOO-LONG [] ≡ o → P) → (length bytes ≤ longestPayload → answer ≡ o → P) → P
-  by-limit o e over under =
-      by-test (leb (length bytes) longestPayload) (λ t. under (leb-true _ _ t) (sym (within (leb-true _ _ t)) ∙ e))
-      (λ f. over (golomb-long bytes count place (leb-false _ _ f) ∙ e))
+  over : longestPayload < length bytes → golomb bytes count place ≡ refused TOO-LONG []
+  over h = sym (golomb-long bytes count place h)
+
+  by-bits : (o : Outcome (Numbered ℕ)) → golomb bytes count place ≡ o → (refused TOO-LONG [] ≡ o → ⊥) → (length bytes ≤ longestPayload) × (answer ≡ o)
+  by-bits = of-bits bytes (golomb bytes count place) answer within over
 
   pub golomb-iff : (m : Numbered ℕ) → (golomb bytes count place ≡ done m) ↔ ((length bytes ≤ longestPayload) × Coded bits place m)
-  golomb-iff m = (λ e. by-limit (done m) e (λ q. not-done q) (λ h q. (h, coded h q begins)), λ c. within (c .0) ∙ coded-answers m (c .1))
+  golomb-iff m = (λ e. let (h, q) = by-bits (done m) e (λ q. not-done q) in (h, coded q begins), λ c. within (c .0) ∙ coded-answers m (c .1))
     where
-      coded : length bytes ≤ longestPayload → answer ≡ done m → Begins → Coded bits place m
-      coded h q (inl (n, c)) = subst (Coded bits place) (done-one (sym (coded-answers n c) ∙ q)) c
-      coded h q (inr (inl c)) = not-done (sym (many-answers c) ∙ q)
-      coded h q (inr (inr (n, c))) = not-done (sym (ends-answers c) ∙ q)
+      coded : answer ≡ done m → Begins → Coded bits place m
+      coded q (inl (n, c)) = subst (Coded bits place) (done-one (sym (coded-answers n c) ∙ q)) c
+      coded q (inr (inl c)) = not-done (sym (many-answers c) ∙ q)
+      coded q (inr (inr (n, c))) = not-done (sym (ends-answers c) ∙ q)
 
   pub value-iff : (golomb bytes count place ≡ refused VALUE []) ↔ ((length bytes ≤ longestPayload) × TooManyZeros bits place)
-  value-iff = (λ e. by-limit (refused VALUE []) e (λ q. other-number q (λ z. omega arith)) (λ h q. (h, many h q begins)), λ c. within (c .0) ∙ many-answers (c .1))
+  value-iff = (λ e. let (h, q) = by-bits (refused VALUE []) e (λ q. other-number q (λ z. omega arith)) in (h, many q begins), λ c. within (c .0) ∙ many-answers (c .1))
     where
-      many : length bytes ≤ longestPayload → answer ≡ refused VALUE [] → Begins → TooManyZeros bits place
-      many h q (inl (n, c)) = not-done (sym q ∙ coded-answers n c)
-      many h q (inr (inl c)) = c
-      many h q (inr (inr (n, c))) = other-number (sym (ends-answers c) ∙ q) (λ z. omega arith)
+      many : answer ≡ refused VALUE [] → Begins → TooManyZeros bits place
+      many q (inl (n, c)) = not-done (sym q ∙ coded-answers n c)
+      many q (inr (inl c)) = c
+      many q (inr (inr (n, c))) = other-number (sym (ends-answers c) ∙ q) (λ z. omega arith)
 
   pub out-iff : (m : ℕ) → (golomb bytes count place ≡ payloadOut m) ↔ ((length bytes ≤ longestPayload) × EndsFirst bits place m)
-  out-iff m = (λ e. by-limit (payloadOut m) e (λ q. other-number q (λ z. omega arith)) (λ h q. (h, ends q begins)), λ c. within (c .0) ∙ ends-answers (c .1))
+  out-iff m = (λ e. let (h, q) = by-bits (payloadOut m) e (λ q. other-number q (λ z. omega arith)) in (h, ends q begins), λ c. within (c .0) ∙ ends-answers (c .1))
     where
       ends : answer ≡ payloadOut m → Begins → EndsFirst bits place m
       ends q (inl (n, c)) = not-done (sym q ∙ coded-answers n c)
@@ -184,10 +183,7 @@ module _ (bytes : List ℕ) (count place : ℕ) where
       ends q (inr (inr (n, c))) = subst (EndsFirst bits place) (out-same (sym (ends-answers c) ∙ q)) c
 
   pub long-iff : (golomb bytes count place ≡ refused TOO-LONG []) ↔ (longestPayload < length bytes)
-  long-iff = (
-    λ e. by-test (leb (length bytes) longestPayload) (λ t. absurd (never (sym (within (leb-true _ _ t)) ∙ e) begins)) (λ f. leb-false _ _ f),
-    λ h. sym (golomb-long bytes count place h),
-  )
+  long-iff = long-exactly bytes (golomb bytes count place) answer within over (λ q. never q begins)
     where
       never : answer ≡ refused TOO-LONG [] → Begins → ⊥
       never q (inl (n, c)) = not-done (sym q ∙ coded-answers n c)
@@ -204,9 +200,7 @@ module _ (bytes : List ℕ) (count place : ℕ) where
   out-range m e = ends-range (out-iff m .0 e .1)
 
   pub golomb-missing : SaysMissing (golomb bytes count place)
-  golomb-missing =
-      by-test (leb (length bytes) longestPayload) (λ t. subst SaysMissing (sym (within (leb-true _ _ t))) (said begins))
-      (λ f. subst SaysMissing (golomb-long bytes count place (leb-false _ _ f)) (says-none TOO-LONG (λ z. omega arith)))
+  golomb-missing = says-whole bytes (golomb bytes count place) answer within over (said begins)
     where
       said : Begins → SaysMissing answer
       said (inl (n, c)) = subst SaysMissing (sym (coded-answers n c)) (says-done n)
