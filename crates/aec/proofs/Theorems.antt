@@ -21,7 +21,7 @@ use Rattle.bits.proofs.LimitLaws.{of-bits, long-exactly, says-whole}
 use Rattle.contexts.specs.Contexts.{goodContext, updateOf}
 use Rattle.aec.specs.Bins.{goodState, withinLimit, refusedFirst, noBit, normaliseOf, settleOf, startOf, stepOf, pairOf, plainOf, decodeOf, decodePairOf}
 use Rattle.aec.specs.Says.{refusalSays, startedSays, steppedSays, decodedSays, decodedPairSays}
-use Rattle.aec.specs.Claims.{Leads, Runs, runs-done, runs-out, Refuses, LacksStart, of-nine, no-one, few-after, SameBits}
+use Rattle.aec.specs.Claims.{Leads, Runs, runs-done, runs-out, Refuses, LacksStart, of-nine, only-zeros, few-after, SameBits}
 use Rattle.aec.specs.declared.State.{State}
 use Rattle.contexts.specs.declared.Context.{Context}
 use Rattle.aec.specs.declared.Prediction.{Prediction}
@@ -231,7 +231,7 @@ module _ (bytes : List ℕ) (count : ℕ) where
 
   lacks-answers : {m : ℕ} → LacksStart bits m → starting ≡ payloadOut m
   lacks-answers (of-nine few) = rw (missing-exactly bits 0 9 (9 - length bits) .1 (omega arith, omega arith))
-  lacks-answers (no-one many z e) = let (v, r) = read-there bits 0 9 (omega arith) in settled v noBit r (lacks-one bits v (all-payload bytes count) r z e)
+  lacks-answers (only-zeros many z e) = let (v, r) = read-there bits 0 9 (omega arith) in settled v noBit r (lacks-one bits v (all-payload bytes count) r z e)
   lacks-answers (few-after many z rest e few) = let (v, r) = read-there bits 0 9 (omega arith) in settled v noBit r (lacks-after bits v (all-payload bytes count) r z rest e few)
 
   -- it lacks bits, or is done
@@ -239,7 +239,7 @@ module _ (bytes : List ℕ) (count : ℕ) where
   Starts = ((x : State) × (starting ≡ done x)) ⊎ ((m : ℕ) × LacksStart bits m)
 
   starts-from : 9 ≤ length bits → (n : ℕ) → (bits ≡ replicate n 0) ⊎ ((rest : List ℕ) × (bits ≡ replicate n 0 ++ (1 ∷ rest))) → Starts
-  starts-from many n (inl e) = inr (1, no-one many n e)
+  starts-from many n (inl e) = inr (1, only-zeros many n e)
   starts-from many n (inr (rest, e)) =
       by-test (leb 8 (length rest))
       (λ t.
@@ -274,7 +274,7 @@ module _ (bytes : List ℕ) (count : ℕ) where
 
   lacks-range : {m : ℕ} → LacksStart bits m → (1 ≤ m) × (m ≤ 9)
   lacks-range (of-nine few) = (omega arith, omega arith)
-  lacks-range (no-one many z e) = (omega arith, omega arith)
+  lacks-range (only-zeros many z e) = (omega arith, omega arith)
   lacks-range (few-after many z rest e few) = (omega arith, omega arith)
 
   pub start-range : (m : ℕ) → startOf bytes count ≡ payloadOut m → (1 ≤ m) × (m ≤ 9)

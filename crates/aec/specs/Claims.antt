@@ -35,7 +35,7 @@ pub record Refuses {A : Type 0} (bytes : List ℕ) (count : ℕ) (x : State) (co
 -- missing where there is no 1, or fewer than eight after it.
 pub data LacksStart (bits : List ℕ) : ℕ → Type 0 where
   of-nine : length bits < 9 → LacksStart bits (9 - length bits)
-  no-one : 9 ≤ length bits → (z : ℕ) → bits ≡ replicate z 0 → LacksStart bits 1
+  only-zeros : 9 ≤ length bits → (z : ℕ) → bits ≡ replicate z 0 → LacksStart bits 1
   few-after : 9 ≤ length bits → (z : ℕ) (rest : List ℕ) → bits ≡ replicate z 0 ++ (1 ∷ rest) → length rest < 8 → LacksStart bits 1
 
 -- two payloads of the same bits, neither over the limit

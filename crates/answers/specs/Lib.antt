@@ -1,4 +1,4 @@
--- What document 01 says of answers: refusal numbers and limits, for every crate above.
+-- What the papers say of answers: refusal numbers, what refusals carry, and limits, for every crate above.
 pub mod Answers
 pub mod Missing
 pub mod Limits
