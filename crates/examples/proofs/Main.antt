@@ -4,7 +4,7 @@ use mathlib.Core.List.{List, [], _∷_, map}
 use Rattle.bits.specs.Bits.{bitsIn, bitsOf, bitAt, readOn, readAt, packOn}
 use Rattle.bits.specs.Lists.{All}
 use Rattle.startcode.specs.Kinds.{kindOf}
-use Rattle.startcode.specs.Prefix.{begins}
+use Rattle.startcode.specs.Prefix.{begins, before, nextPrefix, steps}
 use Rattle.layout.specs.Layouts.{fields, leastBytes}
 use Rattle.layout.specs.Values.{ownership}
 use Rattle.layout.specs.Reader.{allows, ruled, valuesOf, judge, cross, judged, ended, reading, ownerRules}
@@ -36,5 +36,5 @@ unfolding bitsIn bitsOf bitAt readOn readAt packOn kindOf begins fields leastByt
 examples-hold = each examples refl
 
 pub limits-hold : All Holds limits
-unfolding bitsIn bitsOf bitAt readOn readAt packOn kindOf begins fields leastBytes allows ruled valuesOf judge cross judged ended reading headerRecord valueNumber faultNumber faultBit answerOf recordOf headerOf macroblockRows rowLength isOpaque numbered cut step walkFrom walkOfAny walk filing heldRow inStream existing displayIn groupIn groupAt kept copied removal zerosOn golomb standsFor signedGolomb goodState goodContext withinLimit refusedFirst doubleOf shifts startOf splitOf missesOf remainderOf unpredictedOf stepOf rateOf nextCycno nextLg gainOf foldOf updateOf decodeOf plainRecord colouredRecord copyrightRecord ownership plainOf colouredOf copyrightOf ownerRules displayShort displayOf byNumber extensionResult extensionOf entryOf frameRate displayRatio pairOf decodePairOf writtenOn bytesIn changed
+unfolding bitsIn bitsOf bitAt readOn readAt packOn kindOf begins before nextPrefix steps fields leastBytes allows ruled valuesOf judge cross judged ended reading headerRecord valueNumber faultNumber faultBit answerOf recordOf headerOf macroblockRows rowLength isOpaque numbered cut step walkFrom walkOfAny walk filing heldRow inStream existing displayIn groupIn groupAt kept copied removal zerosOn golomb standsFor signedGolomb goodState goodContext withinLimit refusedFirst doubleOf shifts startOf splitOf missesOf remainderOf unpredictedOf stepOf rateOf nextCycno nextLg gainOf foldOf updateOf decodeOf plainRecord colouredRecord copyrightRecord ownership plainOf colouredOf copyrightOf ownerRules displayShort displayOf byNumber extensionResult extensionOf entryOf frameRate displayRatio pairOf decodePairOf writtenOn bytesIn changed
 limits-hold = each limits refl

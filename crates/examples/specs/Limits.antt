@@ -9,6 +9,7 @@ use lib.ListN.{length, take, replicate}
 use Rattle.answers.specs.Answers.{Outcome, done, refused, mapDone, NO-CODE, CUT, OVERLAP, UNKNOWN, OUT-OF-PLACE, SHORT, MARKER, VALUE, STUFFING, TWICE, UNENDED, FULL, TOO-LONG, PAYLOAD-OUT, BAD-STATE, NO-ROW, VALUE-WIDTH, VALUE-HEIGHT, VALUE-CHROMA, VALUE-PRECISION, VALUE-ASPECT, VALUE-RATE, VALUE-TRANSFER, VALUE-MATRIX, VALUE-STEREO, VALUE-COPYRIGHT-OWNER, VALUE-COPYRIGHT-NUMBER, VALUE-SLICE-ORDER, VALUE-SLICE-ROW}
 use Rattle.answers.specs.Limits.{longestStream, longestPayload, mostBits}
 use Rattle.answers.specs.Missing.{payloadOut, missingIn}
+use Rattle.startcode.specs.Prefix.{nextPrefix, steps}
 use Rattle.startcode.specs.Kinds.{kindOf}
 use Rattle.startcode.specs.declared.Kind.the-variants as kind
 use Rattle.bodies.specs.Answers.{Extension, display, copyright, opaque}
@@ -350,10 +351,27 @@ numberLimits =
 
 -- ── "Units" ──
 
+-- where the next 00 00 01 is, and how many steps lead there
+abbrev pub sought : List ℕ → Outcome (List ℕ)
+sought bytes = done (nextPrefix bytes 0 ∷ steps bytes ∷ [])
+
 abbrev pub unitLimits : List Example
 unitLimits =
+    -- E3: a third byte 00 is a step of one place, any other one of three; fewer than three bytes take none
+    sought [] gives done (0 ∷ 0 ∷ [])
+    ∷ sought (0 ∷ 0 ∷ []) gives done (2 ∷ 0 ∷ [])
+    ∷ sought (0 ∷ 0 ∷ 1 ∷ []) gives done (0 ∷ 1 ∷ [])
+    ∷ sought (0 ∷ 1 ∷ 1 ∷ []) gives done (3 ∷ 1 ∷ [])
+    ∷ sought (0 ∷ 0 ∷ 2 ∷ []) gives done (3 ∷ 1 ∷ [])
+    ∷ sought (0 ∷ 0 ∷ 0 ∷ 1 ∷ []) gives done (1 ∷ 2 ∷ [])
+    ∷ sought (2 ∷ 2 ∷ 0 ∷ 0 ∷ 1 ∷ []) gives done (2 ∷ 3 ∷ [])
+    ∷ sought (2 ∷ 2 ∷ 2 ∷ 0 ∷ 0 ∷ 1 ∷ []) gives done (3 ∷ 2 ∷ [])
+    ∷ sought (0 ∷ 1 ∷ 0 ∷ 1 ∷ 0 ∷ 1 ∷ 0 ∷ 1 ∷ []) gives done (8 ∷ 4 ∷ [])
+    ∷ sought (replicate 12 0) gives done (12 ∷ 10 ∷ [])
+    ∷ sought (replicate 14 1) gives done (14 ∷ 4 ∷ [])
+    ∷ sought (replicate 15 2) gives done (15 ∷ 5 ∷ [])
     -- code bytes at the borders of their ranges
-    kindOf 0x00 is-a done kind.Slice
+    ∷ kindOf 0x00 is-a done kind.Slice
     ∷ kindOf 0xAF is-a done kind.Slice
     ∷ kindOf 0xB0 is-a done kind.SequenceHeader
     ∷ kindOf 0xB1 is-a done kind.SequenceEnd

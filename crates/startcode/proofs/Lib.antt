@@ -1,3 +1,4 @@
 pub mod PrefixLaws
+pub mod StepLaws
 pub mod Theorems
 pub mod Main

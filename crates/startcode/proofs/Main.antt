@@ -1,18 +1,29 @@
 -- What is proved of start codes beyond the contracts of the functions.
-use Prim.Native.Nat.{ℕ, _<_}
+use Prim.Native.Nat.{ℕ, _+_, _/_, _≤_, _<_}
 use mathlib.Core.Path.{_≡_}
 use mathlib.Core.List.{List}
 use mathlib.Core.Bool.{_||_}
 use lib.Dec.{leb, eqb}
+use lib.ListN.{length}
 use Rattle.answers.specs.Answers.{OneToOne}
-use Rattle.startcode.specs.Prefix.{nextPrefix, First}
+use Rattle.bits.specs.Lists.{All}
+use Rattle.startcode.specs.Prefix.{nextPrefix, steps, First}
 use Rattle.startcode.specs.Kinds.{kindOf, kindSays}
 use Rattle.startcode.proofs.Theorems.{isUnknown}
 use Rattle.startcode.proofs.Theorems as proof
+use Rattle.startcode.proofs.StepLaws as step
 
 -- The search finds the first 00 00 01 at or after a place, and misses none.
 pub search-first : (stream : List ℕ) (from : ℕ) → First stream from (nextPrefix stream from)
 search-first = proof.search-first
+
+-- E3: over n bytes none of which is 00 it takes at most n/3 + 1 steps. The function that searches counts those that it takes.
+pub few-steps : (bytes : List ℕ) → All (λ (byte : ℕ). ¬ (byte ≡ 0)) bytes → steps bytes ≤ length bytes / 3 + 1
+few-steps = step.few-steps
+
+-- Over any bytes it takes at most one a byte.
+pub most-steps : (bytes : List ℕ) → steps bytes ≤ length bytes
+most-steps = step.most-steps
 
 -- No two answers of `kind_of` say the same in document 01's terms.
 pub kind-one-to-one : OneToOne kindSays

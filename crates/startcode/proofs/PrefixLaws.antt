@@ -5,7 +5,7 @@ use mathlib.Core.List.{List, [], _∷_}
 use mathlib.Core.Bool.{true, false, _&&_}
 use native.Mathlib.Omega.{arith}
 use lib.Dec.{leb, eqb}
-use lib.ListN.{length, getD, take, drop, length-take, length-drop, drop-of-length-le}
+use lib.ListN.{length, getD, take, drop, length-take, length-drop}
 use lib.Seq.{getD-drop}
 use borrow.Author.Tests.{lt-leb, leb-true, eq-eqb}
 use Rattle.bits.proofs.ListLaws.{at-head}
@@ -66,16 +66,29 @@ search-hit s i h e =
     let b : before (drop i s) ≡ 0 = ap before d ∙ before-hit _ _ (sym (ap begins d) ∙ e) in
     omega arith
 
-pub search-step : (s : List ℕ) (i : ℕ) → i < length s → begins (drop i s) ≡ false →
-    min i (length s) + before (drop i s) ≡ min (i + 1) (length s) + before (drop (i + 1) s)
+-- where no prefix stands the search goes on from the next place
+pub search-step : (s : List ℕ) (i : ℕ) → i < length s → begins (drop i s) ≡ false → nextPrefix s i ≡ nextPrefix s (i + 1)
 search-step s i h e =
     let d = at-head s i 0 h in
     let b : before (drop i s) ≡ suc (before (drop (i + 1) s)) = ap before d ∙ before-miss _ _ (sym (ap begins d) ∙ e) in
+    let from = search-start s i in
+    let on = search-start s (i + 1) in
     omega arith
 
-pub search-end : (s : List ℕ) (i : ℕ) → length s ≤ i → min i (length s) + before (drop i s) ≡ length s
-unfolding before
-search-end s i h = rw (drop-of-length-le s h) (omega arith)
+before-short : (t : List ℕ) → length t < 3 → before t ≡ length t
+unfolding before begins
+before-short [] h = refl
+before-short (a ∷ []) h = refl
+before-short (a ∷ b ∷ []) h = refl
+before-short (a ∷ b ∷ c ∷ t) h = absurd (omega arith)
+
+-- where fewer than three bytes are left the search ends
+pub search-end : (s : List ℕ) (i : ℕ) → length s ≤ i + 2 → nextPrefix s i ≡ length s
+search-end s i h =
+    let d = length-drop i s in
+    let b = before-short (drop i s) (omega arith) in
+    let from = search-start s i in
+    omega arith
 
 -- ── what stands where the search ends, and before it ──
 

@@ -1,3 +1,4 @@
 -- Document 01, "Units".
 pub mod Prefix
 pub mod Kinds
+pub mod Inside

@@ -3,6 +3,7 @@ ghost use mathlib.Core.Path.{_≡_};
 ghost use lib.ListN.{drop};
 ghost use Rattle.startcode.specs.Prefix.{begins, nextPrefix};
 ghost use Rattle.startcode.specs.Kinds.{kindOf, kindSays};
+ghost use Rattle.startcode.specs.Inside.{Found, Leads};
 
 pub enum Kind {
     Slice,
@@ -61,13 +62,87 @@ pub fn prefix_at(stream: &[u8], at: usize) -> bool
 pub fn next_prefix(stream: &[u8], from: usize) -> usize
     ensures { λ r. ⌜ r ≡ nextPrefix (now (stream .entry)) from ⌝ }
 {
+    let found = search(stream, from);
+    found.place
+}
+
+// A place, and the steps that led there.
+struct Reached {
+    place: usize,
+    steps: usize,
+}
+
+// The search, by third bytes: a 01 may end a prefix, a 00 may stand in one, and any other byte rules out three places. The steps
+// are counted for the proof alone: next_prefix drops them, and the compiled code does not count.
+fn search(stream: &[u8], from: usize) -> Reached
+    ensures { λ r. ⌜ Found (now (stream .entry)) from (r .place) (r .steps) ⌝ }
+{
     let n = stream.len();
-    let mut at = from;
-    while at < n {
-        if prefix_at(stream, at) {
-            return at;
-        }
-        at += 1;
+    if n <= 2 {
+        return Reached { place: n, steps: 0 };
     }
-    n
+    let end = n - 2;
+    let mut at = from;
+    let mut steps: usize = 0;
+    while at < end {
+        let third = stream[at + 2];
+        if third == 1 {
+            if prefix_at(stream, at) {
+                return Reached {
+                    place: at,
+                    steps: steps + 1,
+                };
+            }
+            at += 3;
+            steps += 1;
+        } else if third == 0 {
+            at += 1;
+            steps += 1;
+        } else {
+            let run = steps_of_three(stream, at + 3);
+            at = run.place;
+            steps += run.steps + 1;
+        }
+    }
+    Reached { place: n, steps }
+}
+
+// Steps of three while the third byte is neither 00 nor 01 and the stream has as much as four steps take; four a turn, which is
+// faster than one.
+fn steps_of_three(stream: &[u8], from: usize) -> Reached
+    ensures { λ r. ⌜ Leads (now (stream .entry)) from (r .place) (r .steps) ⌝ }
+{
+    let n = stream.len();
+    let mut place = from;
+    let mut steps: usize = 0;
+    if n < 11 {
+        return Reached { place, steps };
+    }
+    let end = n - 11;
+    while place < end {
+        if stream[place + 2] <= 1 {
+            return Reached { place, steps };
+        }
+        if stream[place + 5] <= 1 {
+            return Reached {
+                place: place + 3,
+                steps: steps + 1,
+            };
+        }
+        if stream[place + 8] <= 1 {
+            return Reached {
+                place: place + 6,
+                steps: steps + 2,
+            };
+        }
+        if stream[place + 11] <= 1 {
+            return Reached {
+                place: place + 9,
+                steps: steps + 3,
+            };
+        }
+        place += 12;
+        steps += 4;
+    }
+    Reached { place, steps }
 }
