@@ -81,8 +81,9 @@ pub fn run(plan: &Plan, decoders: Decoders) -> Report {
 /// What does not depend on the seed.
 fn exhaustive(comparison: &mut Comparison, small: bool) {
     bodies::codes(comparison);
-    let (start_codes, escapes, step, heights) = if small { (4, 3, 251, 97) } else { (8, 7, 1, 1) };
+    let (start_codes, escapes, step, heights) = if small { (4, 3, 251, 97) } else { (9, 7, 1, 1) };
     payloads::all_start_codes(comparison, start_codes);
+    payloads::lone_start_codes(comparison, if small { 14 } else { 30 });
     payloads::all_escapes(comparison, escapes);
     payloads::two_byte_golomb(comparison, step);
     payloads::cut_golomb(comparison, !small);

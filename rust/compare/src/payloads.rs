@@ -14,6 +14,20 @@ pub(crate) fn all_start_codes(comparison: &mut Comparison, longest: usize) {
     all_strings(&[0, 1, 2], longest).for_each(|bytes| comparison.input(bytes, start_code_questions));
 }
 
+/// One start code, or what is nearly one, at every place of short strings of one byte: a search that steps by more than a byte
+/// comes to each from all sides, with bytes before it that it may pass over.
+pub(crate) fn lone_start_codes(comparison: &mut Comparison, longest: usize) {
+    for length in 0..=longest {
+        for (at, fill) in (0..length).flat_map(|at| [0, 1, 2, 0xFF].map(|fill| (at, fill))) {
+            for put in [&[0, 0, 1][..], &[0, 0, 0, 1], &[0, 1], &[0, 0, 2]] {
+                let mut bytes = vec![fill; length];
+                bytes.iter_mut().skip(at).zip(put).for_each(|(byte, new)| *byte = *new);
+                comparison.input(bytes, start_code_questions);
+            }
+        }
+    }
+}
+
 pub(crate) fn start_codes(comparison: &mut Comparison, random: &mut Random, count: u64) {
     for _ in 0..count {
         let length = pick(random, &[9, 16, 40, 300]);
