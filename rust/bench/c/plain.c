@@ -1,8 +1,9 @@
 /* Plain C rivals of the library: the same algorithms, and other ones where a name says so. */
-#define _POSIX_C_SOURCE 199309L
+#define _GNU_SOURCE /* memmem, and clock_gettime */
 #include <stdbool.h>
 #include <stddef.h>
 #include <stdint.h>
+#include <string.h>
 #include <time.h>
 
 enum {
@@ -96,25 +97,6 @@ static inline bool prefix_at(const uint8_t *stream, size_t n, size_t at)
     return stream[at] == 0 && stream[at + 1] == 0 && stream[at + 2] == 1;
 }
 
-static inline size_t next_prefix(const uint8_t *stream, size_t n, size_t from)
-{
-    for (size_t at = from; at < n; at++)
-        if (prefix_at(stream, n, at))
-            return at;
-    return n;
-}
-
-/* The end is tested once a step, not within the test of a place. */
-static inline size_t next_bytewise(const uint8_t *stream, size_t n, size_t from)
-{
-    if (n < 3)
-        return n;
-    for (size_t at = from; at <= n - 3; at++)
-        if (stream[at] == 0 && stream[at + 1] == 0 && stream[at + 2] == 1)
-            return at;
-    return n;
-}
-
 /* Looks at the third byte of a prefix: one over 1 rules out three places, a 0 one place. */
 static inline size_t next_by_three(const uint8_t *stream, size_t n, size_t from)
 {
@@ -134,9 +116,20 @@ static inline size_t next_by_three(const uint8_t *stream, size_t n, size_t from)
     return n;
 }
 
-size_t plain_next(const uint8_t *stream, size_t length, size_t from)
+/* Place after place, without a step over any. */
+static inline size_t next_bytewise(const uint8_t *stream, size_t n, size_t from)
 {
-    return next_prefix(stream, length, from);
+    if (n < 3)
+        return n;
+    for (size_t at = from; at <= n - 3; at++)
+        if (stream[at] == 0 && stream[at + 1] == 0 && stream[at + 2] == 1)
+            return at;
+    return n;
+}
+
+size_t plain_next_by_three(const uint8_t *stream, size_t length, size_t from)
+{
+    return next_by_three(stream, length, from);
 }
 
 size_t plain_next_bytewise(const uint8_t *stream, size_t length, size_t from)
@@ -144,9 +137,14 @@ size_t plain_next_bytewise(const uint8_t *stream, size_t length, size_t from)
     return next_bytewise(stream, length, from);
 }
 
-size_t plain_next_by_three(const uint8_t *stream, size_t length, size_t from)
+/* The C library's own search, for bytes that it is told at each call. */
+size_t plain_next_memmem(const uint8_t *stream, size_t length, size_t from)
 {
-    return next_by_three(stream, length, from);
+    static const uint8_t prefix[] = {0, 0, 1};
+    if (length < sizeof prefix || length - sizeof prefix < from)
+        return length;
+    const uint8_t *found = memmem(stream + from, length - from, prefix, sizeof prefix);
+    return found == NULL ? length : (size_t)(found - stream);
 }
 
 /* ── bodies ── */
@@ -565,14 +563,14 @@ WITH_SEARCH answer file(search next, const uint8_t *stream, size_t n, uint32_t *
     return a;
 }
 
-answer plain_file(const uint8_t *stream, size_t length, uint32_t *rows, size_t words)
-{
-    return file(next_prefix, stream, length, rows, words);
-}
-
 answer plain_file_by_three(const uint8_t *stream, size_t length, uint32_t *rows, size_t words)
 {
     return file(next_by_three, stream, length, rows, words);
+}
+
+answer plain_file_bytewise(const uint8_t *stream, size_t length, uint32_t *rows, size_t words)
+{
+    return file(next_bytewise, stream, length, rows, words);
 }
 
 /* ── escape removal ── */

@@ -7,11 +7,11 @@ type Remove = unsafe extern "C" fn(*const u8, usize, *mut u8, usize) -> Answer;
 
 extern "C" {
     fn plain_nanoseconds() -> u64;
-    fn plain_file(stream: *const u8, length: usize, rows: *mut u32, words: usize) -> Answer;
     fn plain_file_by_three(stream: *const u8, length: usize, rows: *mut u32, words: usize) -> Answer;
-    fn plain_next(stream: *const u8, length: usize, from: usize) -> usize;
-    fn plain_next_bytewise(stream: *const u8, length: usize, from: usize) -> usize;
+    fn plain_file_bytewise(stream: *const u8, length: usize, rows: *mut u32, words: usize) -> Answer;
     fn plain_next_by_three(stream: *const u8, length: usize, from: usize) -> usize;
+    fn plain_next_bytewise(stream: *const u8, length: usize, from: usize) -> usize;
+    fn plain_next_memmem(stream: *const u8, length: usize, from: usize) -> usize;
     fn plain_remove_escapes(raw: *const u8, length: usize, output: *mut u8, room: usize) -> Answer;
     fn plain_remove_escapes_bitwise(raw: *const u8, length: usize, output: *mut u8, room: usize) -> Answer;
     fn plain_remove_escapes_bytewise(raw: *const u8, length: usize, output: *mut u8, room: usize) -> Answer;
@@ -39,12 +39,12 @@ fn file_by(f: File, stream: &[u8], rows: &mut [u32]) -> Answer {
     unsafe { f(stream.as_ptr(), stream.len(), rows.as_mut_ptr(), rows.len()) }
 }
 
-pub fn file(stream: &[u8], rows: &mut [u32]) -> Answer {
-    file_by(plain_file, stream, rows)
-}
-
 pub fn file_by_three(stream: &[u8], rows: &mut [u32]) -> Answer {
     file_by(plain_file_by_three, stream, rows)
+}
+
+pub fn file_bytewise(stream: &[u8], rows: &mut [u32]) -> Answer {
+    file_by(plain_file_bytewise, stream, rows)
 }
 
 fn next_by(f: Next, stream: &[u8], from: usize) -> usize {
@@ -52,16 +52,17 @@ fn next_by(f: Next, stream: &[u8], from: usize) -> usize {
     unsafe { f(stream.as_ptr(), stream.len(), from) }
 }
 
-pub fn next(stream: &[u8], from: usize) -> usize {
-    next_by(plain_next, stream, from)
+pub fn next_by_three(stream: &[u8], from: usize) -> usize {
+    next_by(plain_next_by_three, stream, from)
 }
 
 pub fn next_bytewise(stream: &[u8], from: usize) -> usize {
     next_by(plain_next_bytewise, stream, from)
 }
 
-pub fn next_by_three(stream: &[u8], from: usize) -> usize {
-    next_by(plain_next_by_three, stream, from)
+/// glibc's memmem.
+pub fn next_memmem(stream: &[u8], from: usize) -> usize {
+    next_by(plain_next_memmem, stream, from)
 }
 
 fn remove_by(f: Remove, raw: &[u8], output: &mut [u8]) -> Answer {

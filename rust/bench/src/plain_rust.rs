@@ -66,8 +66,22 @@ fn read_bits(bytes: &[u8], count: usize, place: usize, width: usize) -> Result<u
     })
 }
 
+/// Looks at the third byte of a prefix: one over 1 rules out three places, a 0 one place.
 #[inline(never)]
-pub fn next(stream: &[u8], from: usize) -> usize {
+pub fn next_by_three(stream: &[u8], from: usize) -> usize {
+    let mut at = from.saturating_add(2);
+    while let Some(&byte) = stream.get(at) {
+        match byte {
+            0 => at += 1,
+            1 if stream[at - 2..at] == [0, 0] => return at - 2,
+            _ => at += 3,
+        }
+    }
+    stream.len()
+}
+
+#[inline(never)]
+pub fn next_by_windows(stream: &[u8], from: usize) -> usize {
     let rest = stream.get(from..).unwrap_or(&[]);
     rest.windows(3)
         .position(|three| three == [0, 0, 1])

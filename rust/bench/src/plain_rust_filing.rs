@@ -1,6 +1,6 @@
 //! Filing in plain Rust: two passes, unit by unit, with bodies read by a bit reader.
 use crate::library::{Answer, NO_BIT};
-use crate::plain_rust::{next, status};
+use crate::plain_rust::{next_by_three, status};
 
 const LONGEST_STREAM: usize = 16_777_216;
 
@@ -328,7 +328,7 @@ fn unit_at(stream: &[u8], state: State, at: usize) -> Result<(State, usize), Ref
     if rest[3..].starts_with(&[0, 0, 1]) {
         return Err(status::OVERLAP.into());
     }
-    let end = next(stream, at + 3);
+    let end = next_by_three(stream, at + 3);
     step_unit(state, code, &stream[at + 4..end]).map(|after| (after, end))
 }
 
@@ -360,7 +360,7 @@ fn write_rows(stream: &[u8], rows: &mut [u32]) {
     let (mut in_head, mut at) = (false, 0);
     for row in rows.chunks_exact_mut(3) {
         let code = stream[at + 3];
-        let end = next(stream, at + 3);
+        let end = next_by_three(stream, at + 3);
         let length = row_length(in_head, code, &stream[at + 4..end]);
         row.copy_from_slice(&[u32::from(code), at as u32, length as u32]);
         in_head = code == 0xB0 || in_head && code != 0xB3;

@@ -5,7 +5,6 @@ use crate::measure::{measure, Measured, Rival, Work, LIBRARY, SAME};
 use crate::{plain_c, plain_rust};
 use std::collections::BTreeSet;
 
-const BY_THREE: &str = "plain C, steps of three";
 const BIT_BY_BIT: &str = "plain C, bit by bit";
 const BYTE_WISE: &str = "plain C, byte-wise";
 const RUST: &str = "plain Rust";
@@ -27,8 +26,8 @@ type Remove = fn(&[u8], &mut [u8]) -> Answer;
 
 const FILE: [(&str, File); 4] = [
     (LIBRARY, library::file),
-    (SAME, plain_c::file),
-    (BY_THREE, plain_c::file_by_three),
+    (SAME, plain_c::file_by_three),
+    (BYTE_WISE, plain_c::file_bytewise),
     (RUST, plain_rust::file),
 ];
 
@@ -143,12 +142,13 @@ fn check_bits() {
 
 // ── start codes ──
 
-const NEXT: [(&str, Next); 5] = [
+const NEXT: [(&str, Next); 6] = [
     (LIBRARY, library::next_start_code),
-    (SAME, plain_c::next),
+    (SAME, plain_c::next_by_three),
     (BYTE_WISE, plain_c::next_bytewise),
-    (BY_THREE, plain_c::next_by_three),
-    (RUST, plain_rust::next),
+    ("glibc memmem", plain_c::next_memmem),
+    ("plain Rust, steps of three", plain_rust::next_by_three),
+    ("plain Rust, windows", plain_rust::next_by_windows),
 ];
 
 pub fn search(row: &'static str, scale: Scale) -> Measured {
