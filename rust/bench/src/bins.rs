@@ -1,8 +1,7 @@
 //! Bins, one at a time, by 1 context and by 512.
 use crate::inputs;
 use crate::library::{self, Bin, Context, Started, State, Unread};
-use crate::measure::{measure, Measured, Rival, Work, LIBRARY, SAME};
-use crate::rows::Scale;
+use crate::measure::{measure, Measured, Rival, Scale, Work, LIBRARY, SAME};
 use crate::{plain_c, plain_rust};
 use std::collections::BTreeSet;
 

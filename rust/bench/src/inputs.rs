@@ -206,7 +206,7 @@ pub fn spoiled(stream: &[u8], random: &mut Random) -> Vec<u8> {
 }
 
 /// Bytes with a start code at each multiple of `apart`.
-pub fn sparse_codes(length: usize, apart: usize) -> Vec<u8> {
+pub fn start_codes(length: usize, apart: usize) -> Vec<u8> {
     let mut random = Random::new(2);
     let mut stream = Vec::with_capacity(length);
     while stream.len() < length {
@@ -214,6 +214,23 @@ pub fn sparse_codes(length: usize, apart: usize) -> Vec<u8> {
     }
     stream.truncate(length);
     stream
+}
+
+/// Random bytes 01 to FF.
+pub fn no_zeros(length: usize) -> Vec<u8> {
+    let mut random = Random::new(8);
+    (0..length).map(|_| random.within(1, 256) as u8).collect()
+}
+
+/// Some bytes, again and again.
+pub fn repeated(bytes: &[u8], length: usize) -> Vec<u8> {
+    bytes.iter().copied().cycle().take(length).collect()
+}
+
+/// All strings over 00, 01 and 02 of at most so many bytes.
+pub fn short_strings(longest: u32) -> impl Iterator<Item = Vec<u8>> {
+    let digits = |number: u32, length| (0..length).map(|place| (number / 3_u32.pow(place) % 3) as u8).collect();
+    (0..=longest).flat_map(move |length| (0..3_u32.pow(length)).map(move |number| digits(number, length)))
 }
 
 /// Random bytes, with 00 00 02 put in for one byte in `apart`.

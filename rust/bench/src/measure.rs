@@ -3,9 +3,19 @@ use crate::plain_c::nanoseconds;
 
 pub const LIBRARY: &str = "library";
 pub const SAME: &str = "plain C, same algorithm";
+pub const BYTE_WISE: &str = "plain C, byte-wise";
 
 /// The library's speed is to be at least this much of plain C's.
 const BAR: f64 = 0.9;
+
+/// How large the inputs are, and how often each rival runs.
+#[derive(Clone, Copy)]
+pub struct Scale {
+    pub stream: usize,
+    pub payload: usize,
+    pub runs: usize,
+    pub repeats: usize,
+}
 
 /// Answers the same number in each run.
 pub struct Rival<'a> {

@@ -1,25 +1,14 @@
-//! The rows of the table. Each first checks that all rivals answer alike.
+//! The rows of filing and of escape removal. Each first checks that all rivals answer alike.
 use crate::inputs::{self, Random, Shape};
 use crate::library::{self, Answer, NO_BIT};
-use crate::measure::{measure, Measured, Rival, Work, LIBRARY, SAME};
+use crate::measure::{measure, Measured, Rival, Scale, Work, BYTE_WISE, LIBRARY, SAME};
 use crate::{plain_c, plain_rust};
 use std::collections::BTreeSet;
 
 const BIT_BY_BIT: &str = "plain C, bit by bit";
-const BYTE_WISE: &str = "plain C, byte-wise";
 const RUST: &str = "plain Rust";
 
-/// How large the inputs are, and how often each rival runs.
-#[derive(Clone, Copy)]
-pub struct Scale {
-    pub stream: usize,
-    pub payload: usize,
-    pub runs: usize,
-    pub repeats: usize,
-}
-
 type File = fn(&[u8], &mut [u32]) -> Answer;
-type Next = fn(&[u8], usize) -> usize;
 type Remove = fn(&[u8], &mut [u8]) -> Answer;
 
 // ── filing ──
@@ -138,49 +127,6 @@ fn check_bits() {
     }
     met.retain(|(_, bit)| *bit != NO_BIT);
     assert_eq!(met.len(), BITS, "bits that were met");
-}
-
-// ── start codes ──
-
-const NEXT: [(&str, Next); 6] = [
-    (LIBRARY, library::next_start_code),
-    (SAME, plain_c::next_by_three),
-    (BYTE_WISE, plain_c::next_bytewise),
-    ("glibc memmem", plain_c::next_memmem),
-    ("plain Rust, steps of three", plain_rust::next_by_three),
-    ("plain Rust, windows", plain_rust::next_by_windows),
-];
-
-pub fn search(row: &'static str, scale: Scale) -> Measured {
-    let stream = inputs::sparse_codes(scale.stream, 65536);
-    for (name, next) in NEXT {
-        assert!(
-            hits(next, &stream) == hits(library::next_start_code, &stream),
-            "{}: other hits",
-            name
-        );
-        assert_eq!(next(&stream, usize::MAX), stream.len(), "{}: past the end", name);
-    }
-    let rivals = NEXT.iter().map(|&(name, next)| {
-        let stream = &stream;
-        let run = Box::new(move || hits(next, stream).iter().map(|&at| at as u64).sum());
-        Rival { name, run }
-    });
-    let work = Work {
-        unit: "byte",
-        amount: stream.len(),
-    };
-    measure(row, work, scale.repeats, rivals.collect())
-}
-
-fn hits(next: Next, stream: &[u8]) -> Vec<usize> {
-    let mut all = Vec::new();
-    let mut at = next(stream, 0);
-    while at < stream.len() {
-        all.push(at);
-        at = next(stream, at + 1);
-    }
-    all
 }
 
 // ── escape removal ──
