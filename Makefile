@@ -22,7 +22,7 @@ LIBRARY = target/staticlib/libavsplus.a
 SHARED = target/lib/libavsplus.so.$(INTERFACE)
 PROGRAM = rust/target/release/avsplus
 
-.PHONY: library program shared install uninstall sample test bench
+.PHONY: library program shared install uninstall sample test bench bench-memchr
 
 # What could not be made whole is not left there.
 .DELETE_ON_ERROR:
@@ -92,3 +92,11 @@ test:
 bench: library
 	scripts/needs cargo gcc ar
 	$(CARGO) run $(MANIFEST) -p bench
+
+# The search beside the crate memchr too, from its Debian package, which nothing else here needs. The lock is made anew: the
+# version is the one that is installed.
+bench-memchr: library
+	scripts/needs cargo gcc ar
+	ls -d /usr/share/cargo/registry/memchr-* >/dev/null 2>&1 || { apt-get update && apt-get install -y librust-memchr-dev; }
+	rm -f rust/bench-memchr/Cargo.lock
+	cd rust/bench-memchr && $(CARGO) run --release
