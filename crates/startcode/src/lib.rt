@@ -1,6 +1,7 @@
 // Start codes: the prefix 00 00 01 and the kinds of unit.
 ghost use mathlib.Core.Path.{_≡_};
-ghost use lib.ListN.{drop};
+ghost use Prim.Native.Nat.{_≤_};
+ghost use lib.ListN.{length, drop};
 ghost use Rattle.startcode.specs.Prefix.{begins, nextPrefix};
 ghost use Rattle.startcode.specs.Kinds.{kindOf, kindSays};
 ghost use Rattle.startcode.specs.Inside.{Found, Leads};
@@ -110,16 +111,13 @@ fn search(stream: &[u8], from: usize) -> Reached
 // Steps of three while the third byte is neither 00 nor 01 and the stream has as much as four steps take; four a turn, which is
 // faster than one.
 fn steps_of_three(stream: &[u8], from: usize) -> Reached
+    requires { ⌜ from ≤ length (now stream) ⌝ }
     ensures { λ r. ⌜ Leads (now (stream .entry)) from (r .place) (r .steps) ⌝ }
 {
     let n = stream.len();
     let mut place = from;
     let mut steps: usize = 0;
-    if n < 11 {
-        return Reached { place, steps };
-    }
-    let end = n - 11;
-    while place < end {
+    while place + 11 < n {
         if stream[place + 2] <= 1 {
             return Reached { place, steps };
         }
