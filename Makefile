@@ -22,7 +22,7 @@ LIBRARY = target/staticlib/libavsplus.a
 SHARED = target/lib/libavsplus.so.$(INTERFACE)
 PROGRAM = rust/target/release/avsplus
 
-.PHONY: library program shared install uninstall sample test bench bench-memchr
+.PHONY: library program shared install uninstall sample test bench bench-links bench-memchr
 
 # What could not be made whole is not left there.
 .DELETE_ON_ERROR:
@@ -92,6 +92,10 @@ test:
 bench: library
 	scripts/needs cargo gcc ar
 	$(CARGO) run $(MANIFEST) -p bench
+
+# The same in nine links, each with the functions in another order: of each row the median. LINKS=.. for another number.
+bench-links: library
+	scripts/bench-links $(or $(LINKS),9)
 
 # The search beside the crate memchr too, from its Debian package, which nothing else here needs. The lock is made anew: the
 # version is the one that is installed.
