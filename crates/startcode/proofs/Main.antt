@@ -1,7 +1,7 @@
 -- What is proved of start codes beyond the contracts of the functions.
-use Prim.Native.Nat.{ℕ, _+_, _/_, _≤_, _<_}
+use Prim.Native.Nat.{ℕ, _+_, _*_, _/_, _≤_, _<_}
 use mathlib.Core.Path.{_≡_}
-use mathlib.Core.List.{List}
+use mathlib.Core.List.{List, _++_}
 use mathlib.Core.Bool.{_||_}
 use lib.Dec.{leb, eqb}
 use lib.ListN.{length}
@@ -20,6 +20,10 @@ search-first = proof.search-first
 -- E3: over n bytes none of which is 00 it takes at most n/3 + 1 steps. The function that searches counts those that it takes.
 pub few-steps : (bytes : List ℕ) → All (λ (byte : ℕ). ¬ (byte ≡ 0)) bytes → steps bytes ≤ length bytes / 3 + 1
 few-steps = step.few-steps
+
+-- Every three bytes none of which is 00 are one step, whatever comes after them.
+pub steps-over : (q : ℕ) (bytes rest : List ℕ) → length bytes ≡ q * 3 → All (λ (byte : ℕ). ¬ (byte ≡ 0)) bytes → steps (bytes ++ rest) ≡ q + steps rest
+steps-over = step.steps-over
 
 -- Over any bytes it takes at most one a byte.
 pub most-steps : (bytes : List ℕ) → steps bytes ≤ length bytes

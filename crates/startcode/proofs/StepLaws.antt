@@ -1,15 +1,15 @@
 -- The laws of the search by third bytes: what a step passes over, and how many there are.
-use Prim.Native.Nat.{ℕ, suc, _+_, _*_, _/_, _≤_, _<_}
+use Prim.Native.Nat.{ℕ, zero, suc, _+_, _*_, _/_, _≤_, _<_}
 use mathlib.Core.Path.{_≡_, refl, sym, ap, _∙_}
-use mathlib.Core.List.{List, [], _∷_}
+use mathlib.Core.List.{List, [], _∷_, _++_}
 use mathlib.Core.Bool.{true, false, false≢true}
 use native.Mathlib.Omega.{arith}
 use native.Mathlib.Nat.{add-assoc}
 use lib.Dec.{leb, eqb}
-use lib.ListN.{length, getD, drop, length-drop}
+use lib.ListN.{length, getD, take, drop, length-take, length-drop, take-append-drop}
 use borrow.Author.Tests.{eq-eqb, ne-eqb, eqb-true, leb-true, leb-false}
 use Rattle.bits.specs.Lists.{All}
-use Rattle.bits.proofs.ListLaws.{at-head}
+use Rattle.bits.proofs.ListLaws.{all-take, at-head}
 use Rattle.bits.proofs.TestLaws.{by-test, and-true, contrary}
 use Rattle.startcode.specs.Prefix.{begins, nextPrefix, steps}
 use Rattle.startcode.specs.Inside.{Found, Leads}
@@ -17,17 +17,34 @@ use Rattle.startcode.proofs.PrefixLaws.{begins-at, begins-short, search
 
 -- ── how many steps ──
 
-steps-thirds : (bytes : List ℕ) → All (λ (byte : ℕ). ¬ (byte ≡ 0)) bytes → steps bytes * 3 ≤ length bytes
+steps-short : (t : List ℕ) → length t < 3 → steps t ≡ 0
+unfolding steps
+steps-short [] h = refl
+steps-short (a ∷ []) h = refl
+steps-short (a ∷ b ∷ []) h = refl
+steps-short (a ∷ b ∷ c ∷ t) h = absurd (omega arith)
+
+-- each step goes past three bytes that are not 00, whatever comes after them
+pub steps-over : (q : ℕ) (bytes rest : List ℕ) → length bytes ≡ q * 3 → All (λ (byte : ℕ). ¬ (byte ≡ 0)) bytes → steps (bytes ++ rest) ≡ q + steps rest
 unfolding steps begins
-steps-thirds [] h = omega arith
-steps-thirds (a ∷ []) h = omega arith
-steps-thirds (a ∷ b ∷ []) h = omega arith
-steps-thirds (a ∷ b ∷ c ∷ t) h =
-    let r = steps-thirds t (h .1 .1 .1) in
+steps-over zero [] rest e h = omega arith
+steps-over zero (a ∷ t) rest e h = absurd (omega arith)
+steps-over (suc q) [] rest e h = absurd (omega arith)
+steps-over (suc q) (a ∷ []) rest e h = absurd (omega arith)
+steps-over (suc q) (a ∷ b ∷ []) rest e h = absurd (omega arith)
+steps-over (suc q) (a ∷ b ∷ c ∷ t) rest e h =
+    let r = steps-over q t rest (omega arith) (h .1 .1 .1) in
     simp (ne-eqb a 0 (h .0), ne-eqb c 0 (h .1 .1 .0)) (omega arith)
 
 pub few-steps : (bytes : List ℕ) → All (λ (byte : ℕ). ¬ (byte ≡ 0)) bytes → steps bytes ≤ length bytes / 3 + 1
-few-steps bytes h = let t = steps-thirds bytes h in omega arith
+few-steps bytes h =
+    let q = length bytes / 3 in
+    let t = length-take (q * 3) bytes in
+    let d = length-drop (q * 3) bytes in
+    let o = steps-over q (take (q * 3) bytes) (drop (q * 3) bytes) (omega arith) (all-take _ (q * 3) bytes h) in
+    let s = steps-short (drop (q * 3) bytes) (omega arith) in
+    let e = ap steps (take-append-drop (q * 3) bytes) in
+    omega arith
 
 -- a step goes past one place at least
 pub most-steps : (bytes : List ℕ) → steps bytes ≤ length bytes
@@ -68,13 +85,6 @@ misses : (s : List ℕ) (i : ℕ) → (Stands s i → ⊥) → begins (drop i s)
 misses s i none = by-test (begins (drop i s)) (λ e. absurd (none (stands s i e))) (λ e. e)
 
 -- ── one step ──
-
-steps-short : (t : List ℕ) → length t < 3 → steps t ≡ 0
-unfolding steps
-steps-short [] h = refl
-steps-short (a ∷ []) h = refl
-steps-short (a ∷ b ∷ []) h = refl
-steps-short (a ∷ b ∷ c ∷ t) h = absurd (omega arith)
 
 steps-hit : (t : List ℕ) → begins t ≡ true → steps t ≡ 1
 unfolding steps begins

@@ -22,14 +22,6 @@ before (a ∷ bytes) = cond (begins (a ∷ bytes)) 0 (suc (before bytes))
 unfoldable pub nextPrefix : List ℕ → ℕ → ℕ
 nextPrefix stream from = length (take from stream) + before (drop from stream)
 
--- E3, "look at the third byte first and step by up to three": how many steps lead there. While three bytes are left the search
--- takes a step, which ends it at 00 00 01, else goes past one place where the third byte is 00 and past three where it is not.
-unfoldable pub steps : List ℕ → ℕ
-steps [] = 0
-steps (a ∷ []) = 0
-steps (a ∷ b ∷ []) = 0
-steps (a ∷ b ∷ c ∷ bytes) = suc (cond (begins (a ∷ b ∷ c ∷ bytes)) 0 (cond (eqb c 0) (steps (b ∷ c ∷ bytes)) (steps bytes)))
-
 -- what that place is: the first at or after `from` where 00 00 01 stands, or the stream's end where there is none, so also
 -- where `from` is at the end or past it
 pub record First (stream : List ℕ) (from place : ℕ) : Type 0 where
@@ -38,3 +30,11 @@ pub record First (stream : List ℕ) (from place : ℕ) : Type 0 where
   pub at-end : length stream ≤ from → place ≡ length stream
   pub stands : place < length stream → begins (drop place stream) ≡ true
   pub none-before : (k : ℕ) → from ≤ k → k < place → begins (drop k stream) ≡ false
+
+-- E3, "look at the third byte first and step by up to three": how many steps the search takes. While three bytes are left it takes
+-- one, which ends it at 00 00 01, else goes past one place where the third byte is 00 and past three where it is not.
+unfoldable pub steps : List ℕ → ℕ
+steps [] = 0
+steps (a ∷ []) = 0
+steps (a ∷ b ∷ []) = 0
+steps (a ∷ b ∷ c ∷ bytes) = suc (cond (begins (a ∷ b ∷ c ∷ bytes)) 0 (cond (eqb c 0) (steps (b ∷ c ∷ bytes)) (steps bytes)))
