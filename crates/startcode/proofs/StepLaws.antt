@@ -4,7 +4,6 @@ use mathlib.Core.Path.{_≡_, refl, sym, ap, _∙_}
 use mathlib.Core.List.{List, [], _∷_, _++_}
 use mathlib.Core.Bool.{true, false, false≢true}
 use native.Mathlib.Omega.{arith}
-use native.Mathlib.Nat.{add-assoc}
 use lib.Dec.{leb, eqb}
 use lib.ListN.{length, getD, take, drop, length-take, length-drop, take-append-drop}
 use borrow.Author.Tests.{eq-eqb, ne-eqb, eqb-true, leb-true, leb-false}
@@ -12,7 +11,7 @@ use Rattle.bits.specs.Lists.{All}
 use Rattle.bits.proofs.ListLaws.{all-take, at-head}
 use Rattle.bits.proofs.TestLaws.{by-test, and-true, contrary}
 use Rattle.startcode.specs.Prefix.{begins, nextPrefix, steps}
-use Rattle.startcode.specs.Inside.{Found, Leads}
+use Rattle.startcode.specs.Inside.{Found, Leads, Runs}
 use Rattle.startcode.proofs.PrefixLaws.{begins-at, begins-short, search-start, search-hit, search-step, search-end}
 
 -- ── how many steps ──
@@ -107,13 +106,13 @@ pub leads-none : (s : List ℕ) (i : ℕ) → Leads s i i 0
 leads-none s i = record { onward = omega arith; same = refl; counted = omega arith }
 
 -- steps and then more steps
-pub leads-on : {s : List ℕ} {i j k m l total : ℕ} → Leads s i j m → Leads s j k l → total ≡ m + l → Leads s i k total
-leads-on a b e =
+pub leads-on : {s : List ℕ} {i j k m l place total : ℕ} → Leads s i j m → Leads s j k l → place ≡ k → total ≡ m + l → Leads s i place total
+leads-on a b e f =
     let p = a .onward in
     let q = b .onward in
     let c = a .counted in
     let d = b .counted in
-    record { onward = omega arith; same = a .same ∙ b .same; counted = omega arith }
+    rw e record { onward = omega arith; same = a .same ∙ b .same; counted = omega arith }
 
 head-to : (s : List ℕ) (i j : ℕ) → j ≡ i + 1 → i < length s → drop i s ≡ getD s i 0 ∷ drop j s
 head-to s i j e h = rw e (at-head s i 0 h)
@@ -121,42 +120,51 @@ head-to s i j e h = rw e (at-head s i 0 h)
 pass : (s : List ℕ) (i j : ℕ) → j ≡ i + 1 → i < length s → (Stands s i → ⊥) → nextPrefix s i ≡ nextPrefix s j
 pass s i j e h none = rw e (search-step s i h (misses s i none))
 
-module _ (s : List ℕ) (i : ℕ) (h : i + 2 < length s) where
-  last-two : drop (i + 1) s ≡ getD s (i + 1) 0 ∷ getD s (i + 2) 0 ∷ drop (i + 3) s
+-- one step, by the place of the third byte
+module _ (s : List ℕ) (i third : ℕ) (e : third ≡ i + 2) (h : third < length s) where
+  last-two : drop (i + 1) s ≡ getD s (i + 1) 0 ∷ getD s third 0 ∷ drop (i + 3) s
   last-two =
-      head-to s (i + 1) (i + 2) (omega arith) (omega arith)
-      ∙ ap (_∷_ (getD s (i + 1) 0)) (head-to s (i + 2) (i + 3) (omega arith) h)
+      head-to s (i + 1) third (omega arith) (omega arith)
+      ∙ ap (_∷_ (getD s (i + 1) 0)) (head-to s third (i + 3) (omega arith) h)
 
-  all-three : drop i s ≡ getD s i 0 ∷ getD s (i + 1) 0 ∷ getD s (i + 2) 0 ∷ drop (i + 3) s
+  all-three : drop i s ≡ getD s i 0 ∷ getD s (i + 1) 0 ∷ getD s third 0 ∷ drop (i + 3) s
   all-three = head-to s i (i + 1) refl (omega arith) ∙ ap (_∷_ (getD s i 0)) last-two
 
+  byte-at : (k : ℕ) → k ≡ third → getD s third 0 ≡ getD s k 0
+  byte-at k f = ap (λ (place : ℕ). getD s place 0) (sym f)
+
+  -- only a 01 ends a prefix
+  misses-here : ¬ (getD s third 0 ≡ 1) → begins (drop i s) ≡ false
+  misses-here none = misses s i (λ p. none (byte-at (i + 2) (sym e) ∙ p .third))
+
   -- a third byte 00: past one place
-  pub leads-one : getD s (i + 2) 0 ≡ 0 → Leads s i (i + 1) 1
+  pub leads-one : getD s third 0 ≡ 0 → Leads s i (i + 1) 1
   leads-one z =
-      let m = misses s i (λ p. let o = p .third in omega arith) in
+      let m = misses-here (λ o. omega arith) in
       let k = steps-one _ _ _ _ (sym (ap begins all-three) ∙ m) z in
       let c : steps (drop i s) ≡ suc (steps (drop (i + 1) s)) = ap steps all-three ∙ k ∙ ap (λ (t : List ℕ). suc (steps t)) (sym last-two) in
       record { onward = omega arith; same = search-step s i (omega arith) m; counted = omega arith }
 
   -- any other third byte that ends no prefix: past three
-  pub leads-three : begins (drop i s) ≡ false → (getD s (i + 2) 0 ≡ 0 → ⊥) → Leads s i (i + 3) 1
+  pub leads-three : begins (drop i s) ≡ false → (getD s third 0 ≡ 0 → ⊥) → Leads s i (i + 3) 1
   leads-three m z =
       let c : steps (drop i s) ≡ suc (steps (drop (i + 3) s)) = ap steps all-three ∙ steps-three _ _ _ _ (sym (ap begins all-three) ∙ m) z in
       record {
         onward = omega arith;
         same =
             search-step s i (omega arith) m
-            ∙ pass s (i + 1) (i + 2) (omega arith) (omega arith) (λ p. z (simp add-assoc at (p .second)))
-            ∙ pass s (i + 2) (i + 3) (omega arith) h (λ p. z (p .first));
+            ∙ pass s (i + 1) third (omega arith) (omega arith) (λ p. z (byte-at (i + 1 + 1) (omega arith) ∙ p .second))
+            ∙ pass s third (i + 3) (omega arith) h (λ p. z (p .first));
         counted = omega arith;
       }
 
--- after so many steps a third byte over 1, by its own place: one step more
-pub leads-over : {s : List ℕ} {from i taken third place total : ℕ} → Leads s from i taken
-    → third ≡ i + 2 → place ≡ i + 3 → total ≡ taken + 1 → third < length s → 1 < getD s third 0 → Leads s from place total
-leads-over {s} {i} l e f k h o =
-    let o′ : 1 < getD s (i + 2) 0 = rw e at o in
-    rw f (leads-on l (leads-three s i (omega arith) (misses s i (λ p. let t = p .third in omega arith)) (λ z. omega arith)) k)
+  pub leads-over : 1 < getD s third 0 → Leads s i (i + 3) 1
+  leads-over o = leads-three (misses-here (λ t. omega arith)) (λ z. omega arith)
+
+-- one step more of a run
+pub runs-on : {s : List ℕ} {from i taken third total : ℕ} → Runs s from i taken
+    → third ≡ i + 3 → total ≡ taken + 1 → third < length s → 1 < getD s third 0 → Runs s from third total
+runs-on {i} r e f h o = record { inside = h; leads = leads-on (r .leads) (leads-over _ (i + 1) _ (omega arith) h o) (omega arith) f }
 
 -- ── where the search ends ──
 

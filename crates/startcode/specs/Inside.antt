@@ -1,8 +1,8 @@
 -- What the private functions promise one another; no part of document 01.
-use Prim.Native.Nat.{ℕ, _+_, _≤_}
+use Prim.Native.Nat.{ℕ, _+_, _≤_, _<_}
 use mathlib.Core.Path.{_≡_}
 use mathlib.Core.List.{List}
-use lib.ListN.{drop}
+use lib.ListN.{length, drop}
 use Rattle.startcode.specs.Prefix.{nextPrefix, steps}
 
 -- the search from a place ended there, after so many steps
@@ -16,3 +16,8 @@ pub record Leads (stream : List ℕ) (from place taken : ℕ) : Type 0 where
   pub onward : from + taken ≤ place
   pub same : nextPrefix stream from ≡ nextPrefix stream place
   pub counted : steps (drop from stream) ≡ taken + steps (drop place stream)
+
+-- a run of steps: from the place after one byte of the stream to the place after another
+pub record Runs (stream : List ℕ) (from third taken : ℕ) : Type 0 where
+  pub inside : third < length stream
+  pub leads : Leads stream (from + 1) (third + 1) taken

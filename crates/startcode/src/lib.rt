@@ -1,10 +1,10 @@
 // Start codes: the prefix 00 00 01 and the kinds of unit.
 ghost use mathlib.Core.Path.{_≡_};
-ghost use Prim.Native.Nat.{_≤_};
+ghost use Prim.Native.Nat.{_+_, _<_};
 ghost use lib.ListN.{length, drop};
 ghost use Rattle.startcode.specs.Prefix.{begins, nextPrefix};
 ghost use Rattle.startcode.specs.Kinds.{kindOf, kindSays};
-ghost use Rattle.startcode.specs.Inside.{Found, Leads};
+ghost use Rattle.startcode.specs.Inside.{Found, Runs};
 
 pub enum Kind {
     Slice,
@@ -50,6 +50,14 @@ pub fn prefix_at(stream: &[u8], at: usize) -> bool
     if n - 3 < at {
         return false;
     }
+    begins_at(stream, at)
+}
+
+// The same of a place that has three bytes.
+fn begins_at(stream: &[u8], at: usize) -> bool
+    requires { ⌜ at + 2 < length (now stream) ⌝ }
+    ensures { λ r. ⌜ r ≡ begins (drop at (now (stream .entry))) ⌝ }
+{
     if stream[at] != 0 {
         return false;
     }
@@ -73,8 +81,9 @@ struct Reached {
     steps: usize,
 }
 
-// The search, by third bytes: a 01 may end a prefix, a 00 may stand in one, and any other byte rules out three places. The steps
-// are counted for the proof alone: next_prefix drops them, and the compiled code does not count.
+// The search, by the place of the third byte: a 01 may end a prefix, a 00 may stand in one, and any other byte rules out three
+// places. All steps go on at one point of the loop, which is faster than one for each. They are counted for the proof alone:
+// next_prefix drops the count, and it is not in the compiled code.
 fn search(stream: &[u8], from: usize) -> Reached
     ensures { λ r. ⌜ Found (now (stream .entry)) from (r .place) (r .steps) ⌝ }
 {
@@ -82,58 +91,60 @@ fn search(stream: &[u8], from: usize) -> Reached
     if n <= 2 {
         return Reached { place: n, steps: 0 };
     }
-    let end = n - 2;
-    let mut at = from;
+    if n - 2 <= from {
+        return Reached { place: n, steps: 0 };
+    }
+    let mut third = from + 2;
     let mut steps: usize = 0;
-    while at < end {
-        let third = stream[at + 2];
-        if third == 1 {
-            if prefix_at(stream, at) {
+    while third < n {
+        let byte = stream[third];
+        let mut past: usize = 3;
+        if byte == 1 {
+            if begins_at(stream, third - 2) {
                 return Reached {
-                    place: at,
+                    place: third - 2,
                     steps: steps + 1,
                 };
             }
-            at += 3;
-            steps += 1;
-        } else if third == 0 {
-            at += 1;
-            steps += 1;
+        } else if byte == 0 {
+            past = 1;
         } else {
-            let run = steps_of_three(stream, at + 3);
-            at = run.place;
-            steps += run.steps + 1;
+            let run = steps_of_three(stream, third);
+            third = run.place;
+            steps += run.steps;
         }
+        third += past;
+        steps += 1;
     }
     Reached { place: n, steps }
 }
 
-// Steps of three while the third byte is neither 00 nor 01 and the stream has as much as four steps take; four a turn, which is
-// faster than one.
+// Steps of three on from the place of a third byte, while the next one is neither 00 nor 01 and the stream has as much as four
+// steps take; four a turn, which is faster than one.
 fn steps_of_three(stream: &[u8], from: usize) -> Reached
-    requires { ⌜ from ≤ length (now stream) ⌝ }
-    ensures { λ r. ⌜ Leads (now (stream .entry)) from (r .place) (r .steps) ⌝ }
+    requires { ⌜ from < length (now stream) ⌝ }
+    ensures { λ r. ⌜ Runs (now (stream .entry)) from (r .place) (r .steps) ⌝ }
 {
     let n = stream.len();
     let mut place = from;
     let mut steps: usize = 0;
-    while place + 11 < n {
-        if stream[place + 2] <= 1 {
+    while place + 12 < n {
+        if stream[place + 3] <= 1 {
             return Reached { place, steps };
         }
-        if stream[place + 5] <= 1 {
+        if stream[place + 6] <= 1 {
             return Reached {
                 place: place + 3,
                 steps: steps + 1,
             };
         }
-        if stream[place + 8] <= 1 {
+        if stream[place + 9] <= 1 {
             return Reached {
                 place: place + 6,
                 steps: steps + 2,
             };
         }
-        if stream[place + 11] <= 1 {
+        if stream[place + 12] <= 1 {
             return Reached {
                 place: place + 9,
                 steps: steps + 3,

@@ -1,35 +1,35 @@
 -- Each third byte over 1 is a step of three; where the turn ends, its steps are added to those before it.
-use Prim.Native.Nat.{ℕ, _+_, _-_, _≤_}
+use Prim.Native.Nat.{ℕ, _+_, _-_}
 use mathlib.Core.Path.{_≡_}
 use native.Mathlib.Omega.{arith}
 use borrow.Author.Needs.{needs}
 use lib.ListN.{length}
-use Rattle.startcode.specs.Inside.{Leads}
-use Rattle.startcode.proofs.StepLaws.{leads-over}
+use Rattle.startcode.specs.Inside.{Runs}
+use Rattle.startcode.proofs.StepLaws.{runs-on}
 use Rattle.startcode.proofs.steps_of_three.Statement.{statement}
 use Rattle.startcode.proofs.steps_of_three.Tie as tie
 
 abbrev Inv-loop : tie.InvT-loop
-Inv-loop stream from n place₀ steps₀ place steps = (n ≡ length stream) × (place ≤ n) × Leads stream from place steps
+Inv-loop stream from n place₀ steps₀ place steps = (n ≡ length stream) × Runs stream from place steps
 
 abbrev μ-loop : tie.MeasureT-loop
 μ-loop stream from n place₀ steps₀ place steps = n - place
 
 -- so many places and steps on from where the turn began
 abbrev Past : tie.In-loop Inv-loop μ-loop → ℕ → ℕ → Type 0
-Past c k m = let l = c .before in let a = l .before .args in Leads (a .stream .now) (a .from) (l .loop .place + k) (l .loop .steps + m)
+Past c k m = let l = c .before in let a = l .before .args in Runs (a .stream .now) (a .from) (l .loop .place + k) (l .loop .steps + m)
 
 one : (c : tie.Else1 Inv-loop μ-loop) → Past (c .before .before) 3 1
-one c = leads-over (c .before .before .before .loop .inv .2) (omega arith) (omega arith) (omega arith) (omega arith) (c .if1 .left)
+one c = runs-on (c .before .before .before .loop .inv .1) (omega arith) (omega arith) (omega arith) (c .if1 .left)
 
 two : (c : tie.Else2 Inv-loop μ-loop) → Past (c .before .before .before .before) 6 2
-two c = leads-over (one (c .before .before)) (omega arith) (omega arith) (omega arith) (omega arith) (c .if2 .left)
+two c = runs-on (one (c .before .before)) (omega arith) (omega arith) (omega arith) (c .if2 .left)
 
 three : (c : tie.Else3 Inv-loop μ-loop) → Past (c .before .before .before .before .before .before) 9 3
-three c = leads-over (two (c .before .before)) (omega arith) (omega arith) (omega arith) (omega arith) (c .if3 .left)
+three c = runs-on (two (c .before .before)) (omega arith) (omega arith) (omega arith) (c .if3 .left)
 
 four : (c : tie.Else4 Inv-loop μ-loop) → Past (c .before .before .before .before .before .before .before .before) 12 4
-four c = leads-over (three (c .before .before)) (omega arith) (omega arith) (omega arith) (omega arith) (c .if4 .left)
+four c = runs-on (three (c .before .before)) (omega arith) (omega arith) (omega arith) (c .if4 .left)
 
 loop-holds : tie.Need-loop-holds Inv-loop μ-loop
 loop-holds c = search needs
@@ -101,7 +101,7 @@ loop-less : tie.Need-loop-less Inv-loop μ-loop
 loop-less c = search needs
 
 loop-again : tie.Need-loop-again Inv-loop μ-loop
-loop-again c = (search needs, search needs, four c)
+loop-again c = (search needs, four c)
 
 returns-5 : tie.Need-returns-5 Inv-loop μ-loop
 returns-5 c = search needs
