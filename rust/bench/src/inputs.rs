@@ -34,7 +34,11 @@ pub struct Shape {
     pub slices: usize,
     /// Bytes of a slice: from the first on and below the second.
     pub slice: (usize, usize),
+    /// A slice's body of so many bytes.
+    pub body: Body,
 }
+
+pub type Body = fn(&mut Random, usize) -> Vec<u8>;
 
 const HEADER: [u8; 15] = [
     0x48, 0x40, 0x0F, 0x00, 0x21, 0xC2, 0x4C, 0xC4, 0xE2, 0x08, 0x00, 0x20, 0x02, 0x00, 0x80,
@@ -80,7 +84,8 @@ fn push_slices(stream: &mut Vec<u8>, random: &mut Random, shape: &Shape) -> bool
         let size = random.within(shape.slice.0, shape.slice.1);
         let left = shape.length - stream.len() - 8;
         let last = left < size + HEADROOM;
-        push_unit(stream, slice as u8, &body(random, if last { left } else { size }));
+        let body = (shape.body)(random, if last { left } else { size });
+        push_unit(stream, slice as u8, &body);
         if last {
             return true;
         }
@@ -179,7 +184,7 @@ fn copyright(random: &mut Random) -> Vec<u8> {
 }
 
 /// Random bytes that hold no 00 00 01 and do not end in 00.
-fn body(random: &mut Random, count: usize) -> Vec<u8> {
+pub fn body(random: &mut Random, count: usize) -> Vec<u8> {
     let mut bytes = random.bytes(count);
     for i in 2..count {
         if bytes[i - 2..i] == [0, 0] {
@@ -217,14 +222,21 @@ pub fn start_codes(length: usize, apart: usize) -> Vec<u8> {
 }
 
 /// Random bytes 01 to FF.
-pub fn no_zeros(length: usize) -> Vec<u8> {
-    let mut random = Random::new(8);
-    (0..length).map(|_| random.within(1, 256) as u8).collect()
+pub fn no_zeros(random: &mut Random, count: usize) -> Vec<u8> {
+    (0..count).map(|_| random.within(1, 256) as u8).collect()
 }
 
 /// Some bytes, again and again.
 pub fn repeated(bytes: &[u8], length: usize) -> Vec<u8> {
     bytes.iter().copied().cycle().take(length).collect()
+}
+
+/// A slice's body: 80, then some bytes again and again.
+pub fn filled(bytes: &[u8], count: usize) -> Vec<u8> {
+    let mut body = repeated(bytes, count);
+    body.insert(0, 0x80);
+    body.truncate(count);
+    body
 }
 
 /// All strings over 00, 01 and 02 of at most so many bytes.

@@ -18,7 +18,13 @@ pub type Row<'a> = (&'static str, Box<dyn Fn(Scale) -> Measured + 'a>);
 
 type Timed = fn(&'static str, Scale) -> Measured;
 
-const RECORDINGS: [(&str, Timed); 2] = [("filing", rows::filing), ("heads-alone", rows::heads_alone)];
+const RECORDINGS: [(&str, Timed); 5] = [
+    ("filing", rows::filing),
+    ("filing-no-00", rows::filing_no_00),
+    ("filing-all-00", rows::filing_all_00),
+    ("filing-00-01", rows::filing_00_01),
+    ("heads-alone", rows::heads_alone),
+];
 
 const PAYLOADS: [(&str, Timed); 5] = [
     ("escapes-rich", rows::escapes_rich),

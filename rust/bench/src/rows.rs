@@ -1,5 +1,5 @@
 //! The rows of filing and of escape removal. Each first checks that all rivals answer alike.
-use crate::inputs::{self, Random, Shape};
+use crate::inputs::{self, Body, Random, Shape};
 use crate::library::{self, Answer, NO_BIT};
 use crate::measure::{measure, Measured, Rival, Scale, Work, BYTE_WISE, LIBRARY, SAME};
 use crate::{plain_c, plain_rust};
@@ -24,19 +24,39 @@ const FILE: [(&str, File); 4] = [
 const UNTOUCHED: u32 = u32::MAX;
 
 pub fn filing(row: &'static str, scale: Scale) -> Measured {
+    file_slices(row, scale, inputs::body)
+}
+
+pub fn filing_no_00(row: &'static str, scale: Scale) -> Measured {
+    file_slices(row, scale, inputs::no_zeros)
+}
+
+/// As where zero bytes fill a slice up.
+pub fn filing_all_00(row: &'static str, scale: Scale) -> Measured {
+    file_slices(row, scale, |_, count| inputs::filled(&[0], count))
+}
+
+pub fn filing_00_01(row: &'static str, scale: Scale) -> Measured {
+    file_slices(row, scale, |_, count| inputs::filled(&[0, 1], count))
+}
+
+/// A recording of slices whose bodies are of one kind.
+fn file_slices(row: &'static str, scale: Scale, body: Body) -> Measured {
     let stream = inputs::recording(&Shape {
         length: scale.stream,
         pictures: 25,
         slices: 68,
         slice: (200, 2500),
+        body,
     });
-    let good = inputs::recording(&Shape {
+    let small = inputs::recording(&Shape {
         length: 1000,
         pictures: 2,
         slices: 3,
         slice: (1, 9),
+        body,
     });
-    measure_filing(row, scale, &stream, &good)
+    measure_filing(row, scale, &stream, &small)
 }
 
 /// Bodies are what there is to read.

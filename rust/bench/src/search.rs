@@ -1,6 +1,7 @@
 //! The search for 00 00 01, on inputs of several kinds. More rivals than are here can be given.
+use crate::inputs::{self, Random};
 use crate::measure::{measure, Measured, Rival, Scale, Work, BYTE_WISE, LIBRARY, SAME};
-use crate::{inputs, library, plain_c, plain_rust, Row};
+use crate::{library, plain_c, plain_rust, Row};
 use std::iter::successors;
 
 /// The first place of 00 00 01 in the bytes, from a place on; where there is none, how many bytes there are.
@@ -25,7 +26,7 @@ type Input = fn(usize) -> Vec<u8>;
 const INPUTS: [(&str, Input); 5] = [
     ("search", |length| inputs::start_codes(length, 65536)),
     ("search-short", |length| inputs::start_codes(length, 24)),
-    ("search-no-00", inputs::no_zeros),
+    ("search-no-00", |length| inputs::no_zeros(&mut Random::new(8), length)),
     ("search-all-00", |length| inputs::repeated(&[0], length)),
     ("search-00-01", |length| inputs::repeated(&[0, 1], length)),
 ];
