@@ -62,7 +62,6 @@ most-steps (a ∷ b ∷ c ∷ t) =
 
 -- the bytes of a prefix at a place
 pub record Stands (s : List ℕ) (i : ℕ) : Type 0 where
-  pub inside : i + 2 < length s
   pub first : getD s i 0 ≡ 0
   pub second : getD s (i + 1) 0 ≡ 0
   pub third : getD s (i + 2) 0 ≡ 1
@@ -71,7 +70,7 @@ stands-in : (s : List ℕ) (i : ℕ) → begins (drop i s) ≡ true → i + 2 < 
 stands-in s i e h =
     let p = and-true _ _ (sym (begins-at s i h) ∙ e) in
     let q = and-true _ _ (p .1) in
-    record { inside = h; first = eqb-true _ _ (p .0); second = eqb-true _ _ (q .0); third = eqb-true _ _ (q .1) }
+    record { first = eqb-true _ _ (p .0); second = eqb-true _ _ (q .0); third = eqb-true _ _ (q .1) }
 
 stands : (s : List ℕ) (i : ℕ) → begins (drop i s) ≡ true → Stands s i
 stands s i e =
