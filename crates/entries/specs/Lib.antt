@@ -1,0 +1,3 @@
+-- Document 02, E9: the entries of the tables; and how the words hold them.
+pub mod Entries
+pub mod Inside

@@ -1,0 +1,3 @@
+pub mod RateLaws
+pub mod TableLaws
+pub mod Main
