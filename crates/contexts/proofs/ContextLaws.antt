@@ -1,13 +1,14 @@
--- The laws of contexts: ranges, the rate, and the update.
-use Prim.Native.Nat.{ℕ, _+_, _-_, _/_, _^_, _≤_, _<_}
+-- The laws of contexts: ranges, and the update.
+use Prim.Native.Nat.{ℕ, _+_, _-_, _≤_, _<_}
 use mathlib.Core.Path.{_≡_, sym}
 use mathlib.Core.Bool.{Bool, true, false}
 use native.Mathlib.Omega.{arith}
 use borrow.Author.Tests.{le-leb, lt-leb, leb-true, leb-false}
 use lib.Dec.{leb, eqb}
-use lib.Pow.{shr-shr, shr-le}
 use Rattle.bits.proofs.TestLaws.{not-held, chosen, and-true}
-use Rattle.contexts.specs.Contexts.{goodContext, freshContext, rateOf, gainOf, nextLg, nextCycno, foldOf, updateOf, updatedOf}
+use Rattle.rates.specs.Rates.{rateOf, gainOf, nextLg}
+use Rattle.rates.proofs.RateLaws.{rate-within, gain-within, next-lg-within}
+use Rattle.contexts.specs.Contexts.{goodContext, freshContext, nextCycno, foldOf, updateOf, updatedOf}
 use Rattle.contexts.specs.declared.Context.{Context}
 
 -- ── ranges ──
@@ -33,33 +34,7 @@ ranges-context c r = simp (le-leb _ _ (r .mps), le-leb _ _ (r .low), le-leb _ _ 
 pub bad-context : (c : Context) → (ContextRanges c → ⊥) → false ≡ goodContext c
 bad-context c h = not-held (goodContext c) (context-ranges c) h
 
--- ── the rate ──
-
-pub rate-within : (cycno : ℕ) → (3 ≤ rateOf cycno) × (rateOf cycno ≤ 5)
-unfolding rateOf
-rate-within cycno =
-    chosen (λ w. (3 ≤ w) × (w ≤ 5)) (leb cycno 1) 3 _ (λ t. omega arith) (λ t. chosen (λ w. (3 ≤ w) × (w ≤ 5)) (eqb cycno 2) 4 5 (λ u. omega arith) (λ u. omega arith))
-
-pub gain-within : (w : ℕ) → (1 ≤ gainOf w) × (gainOf w ≤ 197)
-unfolding gainOf
-gain-within w =
-    chosen (λ g. (1 ≤ g) × (g ≤ 197)) (eqb w 3) 197 _ (λ t. omega arith) (λ t. chosen (λ g. (1 ≤ g) × (g ≤ 197)) (eqb w 4) 95 46 (λ u. omega arith) (λ u. omega arith))
-
--- a shift by j or more leaves no more than one by j
-pub shift-most : (n j w : ℕ) → j ≤ w → n / 2 ^ w ≤ n / 2 ^ j
-shift-most n j w h =
-    let e : j + (w - j) ≡ w = omega arith in
-    let s = shr-shr n j (w - j) in
-    let l = shr-le (n / 2 ^ j) (w - j) in
-    rw (← e) (omega (arith, s))
-
--- what lg loses at any rate
-pub loss : (w lg : ℕ) → 3 ≤ w → (lg / 2 ^ w ≤ lg / 8) × (lg / 2 ^ (w + 2) ≤ lg / 32)
-loss w lg h = (shift-most lg 3 w h, shift-most lg 5 (w + 2) (omega arith))
-
-pub next-lg-within : (w lg : ℕ) → 3 ≤ w → 4 ≤ lg → (4 ≤ nextLg w lg) × (nextLg w lg ≤ lg)
-unfolding nextLg
-next-lg-within w lg h k = let l = loss w lg h in (omega arith, omega arith)
+-- ── the next cycno ──
 
 pub cycno-within : (hit : Bool) (cycno : ℕ) → cycno ≤ 3 → nextCycno hit cycno ≤ 3
 unfolding nextCycno

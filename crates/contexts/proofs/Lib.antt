@@ -1,1 +1,2 @@
 pub mod ContextLaws
+pub mod Main

@@ -1,7 +1,8 @@
 -- Document 01, "Bins": a context's ranges, a fresh context, and "Update", in the document's order.
-use Prim.Native.Nat.{ℕ, _+_, _-_, _/_, _^_, min}
+use Prim.Native.Nat.{ℕ, _+_, _-_, min}
 use mathlib.Core.Bool.{Bool, cond, _&&_}
 use lib.Dec.{leb, eqb}
+use Rattle.rates.specs.Rates.{rateOf, nextLg, gainOf}
 use Rattle.contexts.specs.declared.Context.{Context}
 
 -- ── "Ranges" and "A fresh context" ──
@@ -15,21 +16,9 @@ freshContext = record { mps = 0; lg = 1023; cycno = 0 }
 
 -- ── "Update" ──
 
--- w by the cycno: "3 for 0 or 1, 4 for 2, 5 for 3"
-unfoldable pub rateOf : ℕ → ℕ
-rateOf cycno = cond (leb cycno 1) 3 (cond (eqb cycno 2) 4 5)
-
 -- cycno after a bin that was mps (a hit), or was not: "up by one, at most 3"
 unfoldable pub nextCycno : Bool → ℕ → ℕ
 nextCycno hit cycno = cond hit (cond (eqb cycno 0) 1 cycno) (min 3 (cycno + 1))
-
--- lg after a bin that was mps: it "loses lg/2^w and lg/2^(w+2)"
-unfoldable pub nextLg : ℕ → ℕ → ℕ
-nextLg w lg = lg - lg / 2 ^ w - lg / 2 ^ (w + 2)
-
--- what lg gains otherwise: "197, 95 or 46 for w 3, 4, 5"
-unfoldable pub gainOf : ℕ → ℕ
-gainOf w = cond (eqb w 3) 197 (cond (eqb w 4) 95 46)
 
 -- "if over 1023 becomes 2047 - lg and mps flips"
 unfoldable pub foldOf : Context → Context

@@ -1,8 +1,7 @@
 // Contexts of the bin decoder: their ranges, a fresh one, and the update after a bin.
 ghost use mathlib.Core.Path.{_≡_};
 ghost use mathlib.Core.Bool.{_&&_};
-ghost use Prim.Native.Nat.{_≤_};
-ghost use Rattle.contexts.specs.Contexts.{goodContext, freshContext, rateOf, gainOf, nextLg, nextCycno, updatedOf};
+ghost use Rattle.contexts.specs.Contexts.{goodContext, freshContext, nextCycno, updatedOf};
 
 // Document 01's mps, the likelier bin, with lg and cycno.
 #[repr(C)]
@@ -52,34 +51,6 @@ pub fn good_pair(a: Context, b: Context) -> bool
     false
 }
 
-// w, by the cycno.
-fn rate(cycno: u32) -> u32
-    ensures { λ r. ⌜ r ≡ rateOf cycno ⌝ }
-{
-    if cycno <= 1 {
-        return 3;
-    }
-    if cycno == 2 { 4 } else { 5 }
-}
-
-// What lg gains where the bin was not the context's mps.
-fn gain(w: u32) -> u32
-    ensures { λ r. ⌜ r ≡ gainOf w ⌝ }
-{
-    if w == 3 {
-        return 197;
-    }
-    if w == 4 { 95 } else { 46 }
-}
-
-// The next lg where the bin was the context's mps.
-fn next_lg(w: u32, lg: u32) -> u32
-    requires { ⌜ (3 ≤ w) × (w ≤ 5) ⌝ }
-    ensures { λ r. ⌜ r ≡ nextLg w lg ⌝ }
-{
-    lg - (lg >> w) - (lg >> (w + 2))
-}
-
 // The next cycno; hit says that the bin was the context's mps.
 fn next_cycno(hit: bool, cycno: u32) -> u32
     ensures { λ r. ⌜ r ≡ nextCycno hit cycno ⌝ }
@@ -105,15 +76,15 @@ pub fn updated(c: Context, bin: u32) -> Context
     let cycno = c.cycno;
     let hit = bin == mps;
     let next = next_cycno(hit, cycno);
-    let w = rate(cycno);
+    let rate = rates::rate_by(cycno);
     if hit {
         return Context {
             mps: mps,
-            lg: next_lg(w, lg),
+            lg: entries::next_lg(rate, lg),
             cycno: next,
         };
     }
-    let more = lg + gain(w);
+    let more = lg + rates::gain(rate);
     if more <= 1023 {
         return Context {
             mps: mps,
