@@ -320,6 +320,13 @@ avsplus_plain_bin avsplus_bypass(const uint8_t *bytes, size_t length, size_t bit
 /* A stuffing bin, with the state after it. */
 avsplus_plain_bin avsplus_stuffing(const uint8_t *bytes, size_t length, size_t bits, avsplus_state state);
 
+#define AVSPLUS_NO_LG UINT32_MAX /* is no lg of a context */
+
+/* The entry of a table of context steps: the lg of a context after a bin that was its mps, at the rate w. w is 3, 4 or 5 and goes
+ * by the context's cycno before the bin: 3 for 0 or 1, 4 for 2, 5 for 3. AVSPLUS_NO_LG for any other w, and for an lg over 1023,
+ * where the tables end. The bins' functions read the same tables. */
+uint32_t avsplus_next_lg(uint32_t w, uint32_t lg);
+
 /* ── start codes ── */
 
 /* The first offset from `from` on where 00 00 01 stands, or the stream's length. */

@@ -163,7 +163,7 @@ def named():
         ("crates/avsplus/specs/Interface.antt", ["version"]),
         ("crates/answers/specs/Limits.antt", ["longestStream", "longestPayload"]),
         ("crates/statuses/specs/Answers.antt", ["noBit"]),
-        ("crates/marked/specs/Payloads.antt", ["noNumber", "noSignedNumber", "noBin"]),
+        ("crates/marked/specs/Payloads.antt", ["noNumber", "noSignedNumber", "noBin", "noLg"]),
     ):
         yield from ((capitals(function), value(read(path), function)) for function in functions)
 

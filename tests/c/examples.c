@@ -324,6 +324,26 @@ static void bins(void) {
                                                              b.state.place == s.state.place);
 }
 
+/* Request E9's tables, and a context whose lg a bin takes from one. */
+static void tables(void) {
+    bool rule = true, none = true;
+    for (uint32_t w = 3; w <= 5; w++) {
+        for (uint32_t lg = 0; lg <= 1023; lg++) {
+            uint32_t entry = avsplus_next_lg(w, lg), next = avsplus_next_lg(w, lg + 1);
+            rule = rule && entry == lg - (lg >> w) - (lg >> (w + 2)) && entry <= lg && (lg < 4 || entry >= 4);
+            rule = rule && (lg == 1023 || (entry <= next + 1 && next <= entry + 1));
+        }
+        none = none && avsplus_next_lg(w, 1024) == AVSPLUS_NO_LG && avsplus_next_lg(w, UINT32_MAX) == AVSPLUS_NO_LG;
+    }
+    expect("tables: every entry", rule);
+    expect("tables: no entry past 1023, nor for w 2 and 6", none && avsplus_next_lg(2, 8) == AVSPLUS_NO_LG && avsplus_next_lg(6, 8) == AVSPLUS_NO_LG);
+    static const uint8_t bytes[3] = {0x55, 0x55, 0x55};
+    avsplus_state state = {0, 200, 9, 0, 9};
+    avsplus_context context = {1, 777, 2};
+    avsplus_bin b = avsplus_decode(bytes, 3, 24, state, context);
+    expect("tables: the lg after a bin that was mps", b.status == 0 && b.bin == 1 && b.context.lg == avsplus_next_lg(4, 777));
+}
+
 static void missing_of_start(void) {
     avsplus_state given = {1, 2, 3, 4, 5};
     bool first_nine = true, next = true;
@@ -399,6 +419,7 @@ int main(void) {
     payloads();
     missing_of_numbers();
     bins();
+    tables();
     missing_of_start();
     missing_of_bins();
     nothing();

@@ -28,7 +28,7 @@ ghost use Rattle.aec.specs.Bins.{startOf, bypassOf, stuffingOf, decodeOf, decod
 ghost use Rattle.statuses.specs.Answers.{counted, filedAnswer, partAt, kindAnswer};
 ghost use Rattle.handover.specs.Answers.{answered, after};
 ghost use Rattle.handover.specs.Numbers.{headerNumbers, ratioNumbers, scopeFor, extensionNumbers, groupNumbers};
-ghost use Rattle.marked.specs.Payloads.{numberAnswer, signedAnswer, begunAnswer, plainAnswer, binAnswer, pairAnswer};
+ghost use Rattle.marked.specs.Payloads.{numberAnswer, signedAnswer, begunAnswer, plainAnswer, binAnswer, pairAnswer, entryAnswer};
 ghost use Rattle.avsplus.specs.Interface.{version};
 
 // The number of this interface.
@@ -202,6 +202,14 @@ pub extern "C" fn avsplus_stuffing(bytes: &[u8], bits: usize, state: State) -> P
     ensures { λ r. ⌜ r ≡ plainAnswer state (stuffingOf (now (bytes .entry)) bits state) ⌝ }
 {
     marked::stuffing(bytes, bits, state)
+}
+
+// The entry of the table of context steps for w at an lg.
+#[no_mangle]
+pub extern "C" fn avsplus_next_lg(w: u32, lg: u32) -> u32
+    ensures { λ r. ⌜ r ≡ entryAnswer w lg ⌝ }
+{
+    marked::next_lg(w, lg)
 }
 
 // ── start codes ──

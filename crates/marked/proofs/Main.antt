@@ -1,4 +1,4 @@
--- The front page: the marks that stand where a refusal has no number and no bin are no answer's number and no answer's bin; and how many
+-- The front page: the marks that stand where there is no number, no bin and no entry are no answer's number, bin or entry; and how many
 -- bits were missing is 0 exactly where the status is not PAYLOAD OUT.
 use Prim.Native.Nat.{ℕ, zero, suc, _+_, _/_, _%_, _≤_, _<_}
 use mathlib.Core.Path.{_≡_, refl, sym, ap, _∙_}
@@ -16,11 +16,15 @@ use Rattle.payload.specs.Golomb.{Numbered, standsFor, withSign}
 use Rattle.payload.specs.Reader.{golomb, signedGolomb}
 use Rattle.payload.proofs.GolombLaws.{golomb-bound}
 use Rattle.payload.proofs.Main as payload
+use Rattle.rates.specs.declared.Rate.{Rate}
+use Rattle.entries.specs.Entries.{entryOf}
+use Rattle.entries.specs.declared.Entry.the-variants.{Lg}
+use Rattle.entries.proofs.Main as entries
 use Rattle.aec.specs.Bins.{startOf, bypassOf, stuffingOf, decodeOf, decodePairOf}
 use Rattle.aec.specs.declared.State.{State}
 use Rattle.contexts.specs.declared.Context.{Context}
 use Rattle.aec.proofs.Main as aec
-use Rattle.marked.specs.Payloads.{noNumber, noSignedNumber, noBin, ToldMissing, numberAnswer, signedAnswer, begunAnswer, plainAnswer, binAnswer, pairAnswer}
+use Rattle.marked.specs.Payloads.{noNumber, noSignedNumber, noBin, noLg, ToldMissing, numberAnswer, signedAnswer, begunAnswer, plainAnswer, binAnswer, pairAnswer}
 
 pub number-marked : (bytes : List ℕ) (bits place : ℕ) (m : Numbered ℕ) → golomb bytes bits place ≡ done m → m .number ≢ noNumber
 number-marked bytes bits place m e z = let h = golomb-bound bytes bits place m e in omega arith
@@ -70,6 +74,9 @@ decode-marked bytes bits x c bin y d e z = let h = aec.decode-good bytes bits x 
 pub decode-pair-marked : (bytes : List ℕ) (bits : ℕ) (x : State) (a b : Context) (bin : ℕ) (y : State) (c d : Context)
     → decodePairOf bytes bits x a b ≡ done (bin, y, c, d) → bin ≢ noBin
 decode-pair-marked bytes bits x a b bin y c d e z = let h = aec.decode-pair-good bytes bits x a b bin y c d e .0 .binary in omega arith
+
+pub entry-marked : (r : Rate) (index lg : ℕ) → entryOf r index ≡ Lg lg → lg ≢ noLg
+entry-marked r index lg e z = let h = entries.entry-bounded r index lg e in omega arith
 
 -- ── how many bits were missing ──
 

@@ -1,12 +1,18 @@
--- Exp-Golomb numbers and bins by value. A refusal gives back the place, the state and the contexts that were asked with; in place of
+-- Exp-Golomb numbers, bins and the tables' entries by value. A refusal gives back the place, the state and the contexts that were asked with; in place of
 -- a number or a bin, which it has none of, it has a mark that is no number and no bin. Beside the status is how many bits were missing.
 use Prim.Native.Nat.{ℕ}
 use mathlib.Core.Path.{_≡_}
+use mathlib.Core.Bool.{cond}
 use mathlib.Core.Logic.{_≢_, _↔_}
+use lib.Dec.{eqb}
 use lib.IntN.{ℤ, pos, negℤ}
 use Rattle.answers.specs.Answers.{Outcome, done, refused, PAYLOAD-OUT}
 use Rattle.answers.specs.Missing.{missingIn}
 use Rattle.payload.specs.Golomb.{Numbered}
+use Rattle.rates.specs.declared.Rate.the-variants.{Three, Four, Five}
+use Rattle.entries.specs.Entries.{entryOf}
+use Rattle.entries.specs.declared.Entry.{Entry}
+use Rattle.entries.specs.declared.Entry.the-variants.{Lg, NotGiven}
 use Rattle.aec.specs.declared.State.{State}
 use Rattle.contexts.specs.declared.Context.{Context}
 use Rattle.marked.specs.declared.Number.{Number}
@@ -26,6 +32,9 @@ noSignedNumber = negℤ (pos 2147483648)
 
 abbrev pub noBin : ℕ
 noBin = 2
+
+abbrev pub noLg : ℕ
+noLg = 4294967295
 
 -- ── how many bits were missing ──
 
@@ -60,3 +69,16 @@ binAnswer x c (refused number carried) = record { status = number; missing = mis
 abbrev pub pairAnswer : State → Context → Context → Outcome (ℕ × State × Context × Context) → PairBin
 pairAnswer x a b (done (bin, y, c, d)) = record { status = 0; missing = 0; bin = bin; state = y; first = c; second = d }
 pairAnswer x a b (refused number carried) = record { status = number; missing = missingIn carried; bin = noBin; state = x; first = a; second = b }
+
+-- ── the tables of context steps, asked for with a w and an index ──
+
+abbrev pub entryNumber : Entry → ℕ
+entryNumber (Lg lg) = lg
+entryNumber NotGiven = noLg
+
+-- none for a w that is no rate's
+unfoldable pub entryAnswer : ℕ → ℕ → ℕ
+entryAnswer w index =
+    cond (eqb w 3) (entryNumber (entryOf Three index))
+    (cond (eqb w 4) (entryNumber (entryOf Four index))
+    (cond (eqb w 5) (entryNumber (entryOf Five index)) noLg))

@@ -1,4 +1,4 @@
-// Exp-Golomb numbers and bins by value. A refusal gives back the place, the state and the contexts that were asked with, and has a
+// Exp-Golomb numbers, bins and the tables' entries by value. A refusal gives back the place, the state and the contexts that were asked with, and has a
 // mark that is no number and no bin in place of what it has none of. Beside the status is how many bits were missing, for PAYLOAD OUT.
 use aec::Decoded;
 use aec::DecodedPair;
@@ -6,14 +6,16 @@ use aec::Started;
 use aec::State;
 use aec::Stepped;
 use contexts::Context;
+use entries::Entry;
 use payload::Golomb;
 use payload::SignedGolomb;
+use rates::Rate;
 ghost use mathlib.Core.Path.{_≡_};
 ghost use Rattle.answers.specs.Missing.{missingIn};
 ghost use Rattle.payload.specs.Reader.{golomb, signedGolomb};
 ghost use Rattle.aec.specs.Bins.{startOf, bypassOf, stuffingOf, decodeOf, decodePairOf};
 ghost use Rattle.aec.specs.Says.{refusalNumber, refusalCarries, steppedSays};
-ghost use Rattle.marked.specs.Payloads.{noNumber, noSignedNumber, numberAnswer, signedAnswer, begunAnswer, plainAnswer, binAnswer, pairAnswer};
+ghost use Rattle.marked.specs.Payloads.{noNumber, noSignedNumber, numberAnswer, signedAnswer, begunAnswer, plainAnswer, binAnswer, pairAnswer, entryNumber, entryAnswer};
 
 // An Exp-Golomb number with the place after it.
 #[repr(C)]
@@ -67,12 +69,14 @@ pub struct PairBin {
     pub second: Context,
 }
 
-// In place of a number, a signed number and a bin that are not there.
+// In place of a number, a signed number, a bin and an entry that are not there.
 const NO_NUMBER: u32 = 0xFFFFFFFF;
 
 const NO_SIGNED_NUMBER: i32 = -2147483648;
 
 const NO_BIN: u32 = 2;
+
+const NO_LG: u32 = 0xFFFFFFFF;
 
 // ── Exp-Golomb numbers ──
 
@@ -262,4 +266,27 @@ pub fn stuffing(bytes: &[u8], bits: usize, state: State) -> PlainBin
     ensures { λ r. ⌜ r ≡ plainAnswer state (stuffingOf (now (bytes .entry)) bits state) ⌝ }
 {
     plain_bin(aec::stuffing(bytes, bits, state), state)
+}
+
+// ── the tables of context steps ──
+
+fn entry_number(entry: Entry) -> u32
+    ensures { λ r. ⌜ r ≡ entryNumber entry ⌝ }
+{
+    match entry {
+        Entry::Lg(lg) => lg,
+        Entry::NotGiven => NO_LG,
+    }
+}
+
+// The entry of the table for w, which is 3, 4 or 5, at an index.
+pub fn next_lg(w: u32, index: u32) -> u32
+    ensures { λ r. ⌜ r ≡ entryAnswer w index ⌝ }
+{
+    match w {
+        3 => entry_number(entries::entry_at(Rate::Three, index)),
+        4 => entry_number(entries::entry_at(Rate::Four, index)),
+        5 => entry_number(entries::entry_at(Rate::Five, index)),
+        _ => NO_LG,
+    }
 }

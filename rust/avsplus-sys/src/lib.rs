@@ -194,6 +194,8 @@ pub const AVSPLUS_NO_NUMBER: u32 = u32::MAX;
 pub const AVSPLUS_NO_SIGNED_NUMBER: i32 = i32::MIN;
 /// Is no bin: a bin is 0 or 1.
 pub const AVSPLUS_NO_BIN: u32 = 2;
+/// Is no lg of a context.
+pub const AVSPLUS_NO_LG: u32 = u32::MAX;
 
 /// Kind: a slice.
 pub const AVSPLUS_SLICE: u32 = 0;
@@ -431,6 +433,10 @@ extern "C" {
 
     /// A stuffing bin.
     pub fn avsplus_stuffing(bytes: *const u8, length: usize, bits: usize, state: State) -> PlainBin;
+
+    /// The entry of a table of context steps: the lg of a context after a bin that was its mps, at the rate `w`, 3, 4 or 5.
+    /// [`AVSPLUS_NO_LG`] for any other `w`, and for an `lg` over 1023.
+    pub fn avsplus_next_lg(w: u32, lg: u32) -> u32;
 
     /// The first offset from `from` on where 00 00 01 stands, or the stream's length.
     pub fn avsplus_next_start_code(stream: *const u8, length: usize, from: usize) -> usize;
