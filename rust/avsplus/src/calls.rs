@@ -132,6 +132,12 @@ pub(crate) fn stuffing(bytes: &[u8], bits: usize, state: State) -> Result<PlainB
     Ok(unsafe { sys::avsplus_stuffing(bytes.as_ptr(), bytes.len(), bits, state) })
 }
 
+pub(crate) fn next_lg(w: u32, lg: u32) -> Result<u32, Refused> {
+    agreed()?;
+    // SAFETY: nothing is lent.
+    Ok(unsafe { sys::avsplus_next_lg(w, lg) })
+}
+
 pub(crate) fn next_start_code(stream: &[u8], from: usize) -> Result<usize, Refused> {
     agreed()?;
     // SAFETY: the pointer comes with its slice's own length.

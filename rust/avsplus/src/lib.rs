@@ -40,6 +40,7 @@ pub mod fields;
 mod filing;
 mod kinds;
 mod payload;
+mod rates;
 mod recording;
 mod refused;
 
@@ -51,6 +52,7 @@ pub use bodies::{
 pub use filing::{check, file_into, group, next_start_code, row_body, row_exists, Group, Totals, LONGEST_STREAM, ROW_WORDS};
 pub use kinds::Kind;
 pub use payload::{remove_escapes, remove_escapes_into, Payload, LONGEST_PAYLOAD};
+pub use rates::Rate;
 pub use recording::{file, Groups, Recording, Unit, Units};
 pub use refused::{JudgedField, ListedRefusal, Reason, Refused};
 
