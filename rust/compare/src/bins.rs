@@ -3,7 +3,7 @@
 use avsplus_sys::{Context, State, AVSPLUS_DONE, AVSPLUS_LONGEST_PAYLOAD};
 use independent::generate::{bins_payload, context, state, states_that_want, Random};
 
-use crate::comparison::{alone, Comparison, Reading};
+use crate::comparison::{alone, Comparison, Entry, Reading};
 use crate::decoder::{Decoder, PlainBinOf};
 use crate::inputs::bit_count;
 use crate::reference::{to_context, to_state};
@@ -202,6 +202,39 @@ fn cut_bins(comparison: &mut Comparison, bytes: &[u8]) {
             }
         }
     }
+}
+
+/// Every w from none to one more than the greatest, and far more; every index of a table, and some past it.
+pub(crate) fn tables(comparison: &mut Comparison) {
+    comparison.input_for_all(Vec::new(), |comparison, _| {
+        for w in (0..=6).chain([35, u32::MAX]) {
+            for lg in (0..=1100).chain([2047, 4096 + 3, 65536 + 4, u32::MAX]) {
+                let with = || format!("w {}, lg {}", w, lg);
+                comparison.ask(Question::NextLg, &with, |decoder| Entry((decoder.next_lg)(w, lg)));
+            }
+        }
+    });
+}
+
+/// Every context within its ranges, at every so many lgs, before a bin that is its mps and before one that is not.
+pub(crate) fn all_contexts(comparison: &mut Comparison, step: usize) {
+    comparison.input_for_all(vec![0x5A; 8], |comparison, bytes| {
+        for (lg, cycno) in (4..=1023).step_by(step).flat_map(|lg| (0..=3).map(move |cycno| (lg, cycno))) {
+            for (mps, vs) in [(0, 9), (0, 0), (1, 9), (1, 0)] {
+                // With a large valueS no bin is missed, and with 0 and the largest valueT none is hit.
+                let state = State {
+                    rs: 0,
+                    rt: 200,
+                    vs,
+                    vt: 255,
+                    place: 3,
+                };
+                let run = &mut Run { bytes, bits: 64, state };
+                let mut context = Context { mps, lg, cycno };
+                one(comparison, run, &mut context);
+            }
+        }
+    });
 }
 
 /// Payloads at the limit and one byte over: zeros that keep a start doubling to their very end, and states at the limits.

@@ -85,6 +85,12 @@ impl Answered for u32 {
     }
 }
 
+/// An entry of a table, or the mark that is none.
+#[derive(Debug, PartialEq)]
+pub(crate) struct Entry(pub u32);
+
+impl Answered for Entry {}
+
 /// Whether a row exists, and where its body lies.
 impl Answered for (bool, Part) {
     fn status(&self) -> u32 {

@@ -34,6 +34,8 @@ pub struct Decoder {
     pub decode_pair: fn(&[u8], usize, State, Context, Context) -> PairBin,
     pub bypass: PlainBinOf,
     pub stuffing: PlainBinOf,
+    /// The entry of the table for a w at an lg.
+    pub next_lg: fn(u32, u32) -> u32,
     pub next_start_code: fn(&[u8], usize) -> usize,
     pub kind: fn(u8) -> u32,
 }

@@ -88,6 +88,8 @@ fn exhaustive(comparison: &mut Comparison, small: bool) {
     payloads::two_byte_golomb(comparison, step);
     payloads::cut_golomb(comparison, !small);
     bins::cut(comparison);
+    bins::tables(comparison);
+    bins::all_contexts(comparison, if small { 61 } else { 1 });
     slices::of_all_heights(comparison, heights);
     slices::of_two(comparison);
     fields::of_all_layouts(comparison, !small);

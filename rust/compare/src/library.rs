@@ -24,6 +24,7 @@ pub const LIBRARY: Decoder = Decoder {
     decode_pair,
     bypass,
     stuffing,
+    next_lg,
     next_start_code,
     kind,
 };
@@ -118,6 +119,10 @@ fn bypass(bytes: &[u8], bits: usize, state: State) -> PlainBin {
 
 fn stuffing(bytes: &[u8], bits: usize, state: State) -> PlainBin {
     unsafe { sys::avsplus_stuffing(lent(bytes), bytes.len(), bits, state) }
+}
+
+fn next_lg(w: u32, lg: u32) -> u32 {
+    unsafe { sys::avsplus_next_lg(w, lg) }
 }
 
 fn next_start_code(stream: &[u8], from: usize) -> usize {

@@ -2,7 +2,7 @@
 
 use avsplus_sys::{
     Answer, Bin, Context, Golomb, PairBin, Part, PlainBin, SignedNumber, Started, State, AVSPLUS_EDIT_CODE,
-    AVSPLUS_EXTENSION_UNIT, AVSPLUS_I_PICTURE, AVSPLUS_NO_KIND, AVSPLUS_PB_PICTURE, AVSPLUS_SEQUENCE_END,
+    AVSPLUS_EXTENSION_UNIT, AVSPLUS_I_PICTURE, AVSPLUS_NO_KIND, AVSPLUS_NO_LG, AVSPLUS_PB_PICTURE, AVSPLUS_SEQUENCE_END,
     AVSPLUS_SEQUENCE_HEADER, AVSPLUS_SLICE, AVSPLUS_USER_DATA,
 };
 use independent::{Copyright, Display, Extension, Fault, Header, Refused, Unread};
@@ -29,6 +29,7 @@ pub const REFERENCE: Decoder = Decoder {
     decode_pair,
     bypass: |bytes, bits, state| plain(independent::bypass(bytes, bits as u64, from_state(state)), state),
     stuffing: |bytes, bits, state| plain(independent::stuffing(bytes, bits as u64, from_state(state)), state),
+    next_lg: |w, lg| independent::table_entry(w, lg).unwrap_or(AVSPLUS_NO_LG),
     next_start_code: |stream, from| independent::next_start_code(stream, from as u64) as usize,
     kind,
 };

@@ -35,9 +35,10 @@ pub(crate) enum Question {
     DecodePair,
     Bypass,
     Stuffing,
+    NextLg,
 }
 
-const QUESTIONS: [&str; 19] = [
+const QUESTIONS: [&str; 20] = [
     "check",
     "file",
     "row",
@@ -57,6 +58,7 @@ const QUESTIONS: [&str; 19] = [
     "decode pair",
     "bypass",
     "stuffing",
+    "next lg",
 ];
 
 impl Question {

@@ -1,11 +1,12 @@
 //! The safe crate, its answers put back as the C interface has them.
 
 use avsplus::{
-    DisplayExtension, DisplayRatio, Extension, Group, Kind, Payload, Ratio, Reason, Recording, Refused, Scope, SequenceHeader,
-    Totals, Unit,
+    DisplayExtension, DisplayRatio, Extension, Group, Kind, Payload, Rate, Ratio, Reason, Recording, Refused, Scope,
+    SequenceHeader, Totals, Unit,
 };
 use avsplus_sys::{
     Answer, Bin, Context, Golomb, PairBin, Part, PlainBin, SignedNumber, Started, State, AVSPLUS_DONE, AVSPLUS_NO_KIND,
+    AVSPLUS_NO_LG,
 };
 
 use crate::decoder::{self, done, hand_over, refused, Decoder, Status};
@@ -31,6 +32,7 @@ pub const WRAPPED: Decoder = Decoder {
     decode_pair,
     bypass: |bytes, bits, state| plain(|payload, state| payload.bypass(state), bytes, bits, state),
     stuffing: |bytes, bits, state| plain(|payload, state| payload.stuffing(state), bytes, bits, state),
+    next_lg,
     // No stream is so long: a refusal is a difference.
     next_start_code: |stream, from| avsplus::next_start_code(stream, from).unwrap_or(usize::MAX),
     kind: |code| Kind::of(code).map_or(AVSPLUS_NO_KIND, Kind::number),
@@ -306,6 +308,16 @@ fn from_context(context: Context) -> avsplus::Context {
 fn to_context(context: avsplus::Context) -> Context {
     let avsplus::Context { mps, lg, cycno } = context;
     Context { mps, lg, cycno }
+}
+
+/// No type has a rate with another w, so that the crate has no answer for one.
+fn next_lg(w: u32, lg: u32) -> u32 {
+    let rate = Rate::ALL.into_iter().find(|rate| rate.w() == w);
+    // No table has such an entry: a refusal is a difference.
+    let entry = rate
+        .map_or(Ok(None), |rate| rate.next_lg(lg))
+        .unwrap_or(Some(lg.wrapping_add(1)));
+    entry.unwrap_or(AVSPLUS_NO_LG)
 }
 
 fn start(bytes: &[u8], bits: usize, state: State) -> Started {

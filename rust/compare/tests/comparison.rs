@@ -268,6 +268,15 @@ fn same_context(bytes: &[u8], bits: usize, state: State, context: Context) -> Bi
     Bin { context, ..bin }
 }
 
+/// The lg after one lg is one less, where the bin was the mps.
+fn one_step_off(bytes: &[u8], bits: usize, state: State, context: Context) -> Bin {
+    let mut bin = (LIBRARY.decode)(bytes, bits, state, context);
+    if context.lg == 553 && bin.bin == context.mps {
+        bin.context.lg -= 1;
+    }
+    bin
+}
+
 /// The contexts change places.
 fn swapped(bytes: &[u8], bits: usize, state: State, first: Context, second: Context) -> PairBin {
     let bin = (LIBRARY.decode_pair)(bytes, bits, state, first, second);
@@ -287,7 +296,7 @@ fn last_number(answer: Answer, numbers: &mut [u64]) -> Answer {
 type Slip = (&'static str, fn(&mut Decoder));
 
 /// At least one for every question; those of numbers and bits are in tests/bits.rs, those of missing bits in tests/missing.rs.
-const SLIPS: [Slip; 38] = [
+const SLIPS: [Slip; 42] = [
     ("check that is full", |d| d.check = check_that_is_full),
     ("last row", |d| d.file = last_row),
     ("word after the rows", |d| d.file = word_after_rows),
@@ -340,9 +349,19 @@ const SLIPS: [Slip; 38] = [
     }),
     ("start that clears", |d| d.start = start_clears),
     ("same context", |d| d.decode = same_context),
+    ("one context step", |d| d.decode = one_step_off),
     ("swapped contexts", |d| d.decode_pair = swapped),
     ("stuffing for bypass", |d| d.bypass = d.stuffing),
     ("bypass for stuffing", |d| d.stuffing = d.bypass),
+    ("last entry", |d| {
+        d.next_lg = |w, lg| (LIBRARY.next_lg)(w, if lg == 1023 { 1022 } else { lg })
+    }),
+    ("entry past a table", |d| {
+        d.next_lg = |w, lg| (LIBRARY.next_lg)(w, lg.min(1023))
+    }),
+    ("entry of another rate", |d| {
+        d.next_lg = |w, lg| (LIBRARY.next_lg)(if w == 4 { 5 } else { w }, lg)
+    }),
     ("start code from one on", |d| {
         d.next_start_code = |s, from| (LIBRARY.next_start_code)(s, from.max(1))
     }),

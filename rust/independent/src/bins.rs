@@ -114,6 +114,17 @@ fn bin(payload: &mut Payload, state: State, predicted: &Prediction) -> Result<(u
     Ok((1 - predicted.mps, after))
 }
 
+/// What lg becomes with a bin that is mps: it loses two parts, by w.
+fn next_lg(w: u32, lg: u64) -> u64 {
+    lg - lg / (1 << w) - lg / (1 << (w + 2))
+}
+
+/// Request E9's tables: for a w of 3, 4 or 5 the next lg of every lg below 1,024.
+pub fn table_entry(w: u32, lg: u32) -> Option<u32> {
+    let in_table = (3..=5).contains(&w) && u64::from(lg) <= LG_MAX;
+    in_table.then(|| next_lg(w, lg.into()) as u32)
+}
+
 /// A context after a bin; w is by the cycno before the step.
 fn update(c: Context, bin: u64) -> Context {
     let (w, gain) = match c.cycno {
@@ -122,10 +133,9 @@ fn update(c: Context, bin: u64) -> Context {
         _ => (5, 46),
     };
     if bin == c.mps {
-        let lg = c.lg - c.lg / (1 << w) - c.lg / (1 << (w + 2));
         return Context {
             mps: c.mps,
-            lg,
+            lg: next_lg(w, c.lg),
             cycno: c.cycno.max(1),
         };
     }

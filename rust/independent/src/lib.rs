@@ -12,7 +12,7 @@ mod refusals;
 mod rows;
 mod units;
 
-pub use bins::{bypass, decode, decode_pair, fresh, start, stuffing, Context, State};
+pub use bins::{bypass, decode, decode_pair, fresh, start, stuffing, table_entry, Context, State};
 pub use filing::{check, file, group};
 pub use layouts::{
     display_ratio, extension, frame_rate, header, macroblock_columns, macroblock_rows, Copyright, Display, Extension, Header,

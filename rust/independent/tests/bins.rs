@@ -158,3 +158,20 @@ fn bypass_and_stuffing() {
     assert_eq!(stuffing(&PAYLOAD, 32, s), Ok((bin, after)));
     assert_eq!((bin, after), (0, State { rt: 254, ..s }));
 }
+
+/// Request E9's rule, of every entry and the next.
+#[test]
+fn tables() {
+    for w in 3..=5 {
+        let table: Vec<u32> = (0..1024).map_while(|lg| table_entry(w, lg)).collect();
+        assert_eq!(table.len(), 1024);
+        assert!(table
+            .iter()
+            .zip(0..)
+            .all(|(&entry, lg)| entry <= lg && (lg < 4 || entry >= 4)));
+        assert!(table.windows(2).all(|pair| pair[0].abs_diff(pair[1]) <= 1));
+    }
+    assert_eq!([3, 4, 5].map(|w| table_entry(w, 1023)), [Some(865), Some(945), Some(985)]);
+    assert_eq!([3, 4, 5].map(|w| table_entry(w, 32)), [Some(27), Some(30), Some(31)]);
+    assert_eq!([(2, 8), (6, 8), (3, 1024)].map(|(w, lg)| table_entry(w, lg)), [None; 3]);
+}
