@@ -32,6 +32,7 @@ Payloads:
   unescape FILE          escape bits removed
   golomb FILE            Exp-Golomb numbers, one after another
   bins FILE --count K    bins of the arithmetic decoder
+  tables                 the tables that bins take a context's next lg from
 
 Help:
   help                   this text
@@ -192,6 +193,20 @@ Exit status: 0 done, 1 refused, 2 wrong arguments, or a file or output that cann
 read or written.
 "
 );
+
+/// Help on `tables`.
+pub const TABLES: &str = "\
+Prints the tables of context steps: for every lg from 0 to 1023 the lg of a context after
+a bin that was its mps, at w 3, 4 and 5. w goes by the context's cycno before the bin: 3
+for 0 or 1, 4 for 2, 5 for 3. Bins take the lg from these tables.
+
+Usage: avsplus tables [--json]
+
+  --json        one JSON object instead of text
+  --help        this text
+
+Exit status: 0 done, 2 wrong arguments, or output that cannot be written.
+";
 
 /// Before the table of refusals.
 pub const REFUSALS: &str = "\

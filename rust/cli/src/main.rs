@@ -15,6 +15,7 @@ mod recordings;
 mod sheet;
 #[allow(unsafe_code)]
 mod standard;
+mod tables;
 
 use std::env;
 use std::ffi::{OsStr, OsString};
@@ -105,6 +106,16 @@ const COMMANDS: &[Command] = &[
             options: &["--unit", "--bits", "--count"],
         },
         run: bins::bins,
+    },
+    Command {
+        name: "tables",
+        help: help::TABLES,
+        shape: Shape {
+            operands: &[],
+            flags: &[],
+            options: &[],
+        },
+        run: tables::tables,
     },
 ];
 

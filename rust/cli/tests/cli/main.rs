@@ -6,4 +6,5 @@ mod output;
 mod payloads;
 mod recordings;
 mod support;
+mod tables;
 mod usage;

@@ -54,6 +54,8 @@ fn closed_streams_and_full_disks() {
         &format!("--json file '{}'", name),
         &format!("golomb '{}'", name),
         "--help",
+        "tables",
+        "--json tables",
         "help bins",
         "--version",
     ] {

@@ -4,7 +4,7 @@ use std::fs;
 
 use crate::support::*;
 
-const COMMANDS: [&str; 7] = ["file", "units", "header", "body", "unescape", "golomb", "bins"];
+const COMMANDS: [&str; 8] = ["file", "units", "header", "body", "unescape", "golomb", "bins", "tables"];
 
 #[test]
 fn help_and_version() {
