@@ -22,6 +22,7 @@ use Rattle.payload.specs.Escape.{kept, copied, removal}
 use Rattle.payload.specs.Golomb.{standsFor}
 use Rattle.payload.specs.Reader.{zerosOn, golomb, signedGolomb}
 use Rattle.rates.specs.Rates.{rateOf, gainOf}
+use Rattle.rates.specs.Tables.{nextLgs, tableOf}
 use Rattle.contexts.specs.Contexts.{goodContext, nextCycno, foldOf, updateOf}
 use Rattle.aec.specs.Bins.{goodState, withinLimit, refusedFirst, doubleOf, shifts, startOf, splitOf, missesOf, remainderOf, unpredictedOf, stepOf, pairOf, decodeOf, decodePairOf}
 use Rattle.examples.specs.Examples.{Example, examples, Holds, bins}
@@ -37,5 +38,5 @@ unfolding bitsIn bitsOf bitAt readOn readAt packOn kindOf begins fields leastByt
 examples-hold = each examples refl
 
 pub limits-hold : All Holds limits
-unfolding bitsIn bitsOf bitAt readOn readAt packOn kindOf begins before nextPrefix steps fields leastBytes allows ruled valuesOf judge cross judged ended reading headerRecord valueNumber faultNumber faultBit answerOf recordOf headerOf macroblockRows rowLength isOpaque numbered cut step walkFrom walkOfAny walk filing heldRow inStream existing displayIn groupIn groupAt kept copied removal zerosOn golomb standsFor signedGolomb goodState goodContext withinLimit refusedFirst doubleOf shifts startOf splitOf missesOf remainderOf unpredictedOf stepOf rateOf nextCycno gainOf foldOf updateOf decodeOf plainRecord colouredRecord copyrightRecord ownership plainOf colouredOf copyrightOf ownerRules displayShort displayOf byNumber extensionResult extensionOf entryOf frameRate displayRatio pairOf decodePairOf writtenOn bytesIn changed
+unfolding bitsIn bitsOf bitAt readOn readAt packOn kindOf begins before nextPrefix steps fields leastBytes allows ruled valuesOf judge cross judged ended reading headerRecord valueNumber faultNumber faultBit answerOf recordOf headerOf macroblockRows rowLength isOpaque numbered cut step walkFrom walkOfAny walk filing heldRow inStream existing displayIn groupIn groupAt kept copied removal zerosOn golomb standsFor signedGolomb goodState goodContext withinLimit refusedFirst doubleOf shifts startOf splitOf missesOf remainderOf unpredictedOf stepOf rateOf nextLgs tableOf nextCycno gainOf foldOf updateOf decodeOf plainRecord colouredRecord copyrightRecord ownership plainOf colouredOf copyrightOf ownerRules displayShort displayOf byNumber extensionResult extensionOf entryOf frameRate displayRatio pairOf decodePairOf writtenOn bytesIn changed
 limits-hold = each limits refl

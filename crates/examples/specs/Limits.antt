@@ -30,6 +30,11 @@ use Rattle.groups.specs.declared.Display.{Display}
 use Rattle.groups.specs.declared.Display.the-variants as shown
 use Rattle.payload.specs.Golomb.{standsFor}
 use Rattle.payload.specs.Reader.{golomb}
+use Rattle.rates.specs.declared.Rate.{Rate}
+use Rattle.rates.specs.declared.Rate.the-variants.{Three, Four, Five}
+use Rattle.entries.specs.Entries.{entryOf}
+use Rattle.entries.specs.declared.Entry.{Entry}
+use Rattle.entries.specs.declared.Entry.the-variants.{Lg, NotGiven}
 use Rattle.contexts.specs.Contexts.{updateOf}
 use Rattle.aec.specs.Bins.{startOf, pairOf, bypassOf, stuffingOf, decodeOf, decodePairOf}
 use Rattle.aec.specs.declared.State.{State}
@@ -320,6 +325,14 @@ stuffing x = mapDone plainNumbers (stuffingOf payload 24 x)
 -- a context after a bin
 abbrev pub updated : Context → ℕ → Outcome (List ℕ)
 updated c bin = done (contextNumbers (updateOf c bin))
+
+-- the entry of a rate's table at an index, and no number where there is none
+abbrev pub entryNumbers : Entry → List ℕ
+entryNumbers (Lg lg) = lg ∷ []
+entryNumbers NotGiven = []
+
+abbrev pub entry : Rate → ℕ → Outcome (List ℕ)
+entry r k = done (entryNumbers (entryOf r k))
 
 -- p and lg of two contexts
 abbrev pub paired : Context → Context → Outcome (List ℕ)
@@ -865,6 +878,28 @@ binLimits =
     ∷ updated (context 0 928 2) 1 gives done (0 ∷ 1023 ∷ 3 ∷ [])
     ∷ updated (context 0 929 2) 1 gives done (1 ∷ 1023 ∷ 3 ∷ [])
     ∷ updated (context 0 978 3) 1 gives done (1 ∷ 1023 ∷ 3 ∷ [])
+    -- document 02, E9: where an entry first loses 1, where it is less than the one before, the last one, and none
+    ∷ entry Three 0 gives is 0
+    ∷ entry Three 4 gives is 4
+    ∷ entry Three 7 gives is 7
+    ∷ entry Three 8 gives is 7
+    ∷ entry Three 31 gives is 28
+    ∷ entry Three 32 gives is 27
+    ∷ entry Three 1022 gives is 864
+    ∷ entry Three 1023 gives is 865
+    ∷ entry Three 1024 gives done []
+    ∷ entry Four 15 gives is 15
+    ∷ entry Four 16 gives is 15
+    ∷ entry Four 63 gives is 60
+    ∷ entry Four 64 gives is 59
+    ∷ entry Four 1023 gives is 945
+    ∷ entry Four 1024 gives done []
+    ∷ entry Five 31 gives is 31
+    ∷ entry Five 32 gives is 31
+    ∷ entry Five 127 gives is 124
+    ∷ entry Five 128 gives is 123
+    ∷ entry Five 1023 gives is 985
+    ∷ entry Five 1024 gives done []
     ∷ []
 
 -- ── "Slips the recorder has seen" ──

@@ -1,4 +1,4 @@
-// Document 01's examples 8 to 12, asked of the Rattle functions: a line each. A refusal is its number, PAYLOAD OUT with how many bits
+// Document 01's examples 8 to 12 and document 02's tables, asked of the Rattle functions: a line each. A refusal is its number, PAYLOAD OUT with how many bits
 // are missing. tests/payloads_oracle.py has the answers as document 01 gives them.
 use aec::Decoded;
 use aec::Started;
@@ -152,6 +152,29 @@ fn example_bins(n: u32, bytes: &[u8], count: u32) {
     end();
 }
 
+// ── document 02, E9: what belongs to a rate, and its tables lent ──
+
+fn rate(cycno: u32) {
+    say(b"cycno");
+    small(cycno);
+    let r = rates::rate_by(cycno);
+    small(rates::width(r));
+    small(rates::gain(r));
+    small(entries::next_lg(r, 1023));
+    small(entries::next_lg(r, 1024));
+    small(entries::next_lg(r, 0xFFFFFFFF));
+    end();
+}
+
+fn table(w: u32, table: &[u32; 1024]) {
+    say(b"table");
+    small(w);
+    for k in 0..1024 {
+        small(table[k]);
+    }
+    end();
+}
+
 fn main() {
     example_escape();
     example_golomb(0x80, 1);
@@ -160,4 +183,13 @@ fn main() {
     example_bins(10, b"\x80\x40\x00", 1);
     example_bins(11, b"\x40\x00", 3);
     example_bins(12, b"\x80\x00", 1);
+    rate(0);
+    rate(1);
+    rate(2);
+    rate(3);
+    rate(4);
+    let tables = rates::tables();
+    table(3, &tables[0]);
+    table(4, &tables[1]);
+    table(5, &tables[2]);
 }
