@@ -15,6 +15,6 @@ wordsOf m = record { 0 = wordOf 3 (4 * m); 1 = wordOf 4 (4 * m); 2 = wordOf 5 (4
 abbrev pub pickOf : Words → ℕ → ℕ
 pickOf words w = cond (eqb w 3) (words .0) (cond (eqb w 4) (words .1) (words .2))
 
--- the entry at an lg: as the words come round after 256, that of an lg past the table is of no use
+-- the entry at an lg; past the table the words come round, and what is read is no entry
 abbrev pub readOf : ℕ → ℕ → ℕ
 readOf w lg = pickOf (wordsOf (lg / 4 % 256)) w / 2 ^ (16 * (lg % 4)) % 65536

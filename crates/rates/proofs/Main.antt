@@ -1,5 +1,5 @@
 -- The front page: the rule of the tables, for each of the three rates, and no two rates have one w.
-use mathlib.Core.Path.{_≡_, refl}
+use mathlib.Core.Path.{refl}
 use native.Mathlib.Omega.{arith}
 use Rattle.answers.specs.Answers.{OneToOne}
 use Rattle.rates.specs.Rates.{wOf}

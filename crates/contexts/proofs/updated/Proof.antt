@@ -4,7 +4,7 @@ use mathlib.Core.Path.{_≡_, sym, ap, _∙_}
 use mathlib.Core.Bool.{true, cond}
 use native.Mathlib.Omega.{arith}
 use borrow.Author.Tests.{not-true, not-false}
-use Rattle.rates.specs.Rates.{wOf, nextLg, gainOf}
+use Rattle.rates.specs.Rates.{wOf, gainOf}
 use Rattle.rates.proofs.RateLaws.{gain-within}
 use Rattle.contexts.specs.Contexts.{goodContext, updateOf}
 use Rattle.contexts.specs.declared.Context.{Context}

@@ -1,5 +1,5 @@
 -- Sixteen bits of the word that is picked.
-use Prim.Native.Nat.{ℕ, _*_, _/_, _%_, _^_}
+use Prim.Native.Nat.{_*_, _/_, _%_, _^_}
 use mathlib.Core.Path.{ap, _∙_}
 use Rattle.entries.specs.Inside.{pickOf}
 use borrow.Author.Needs.{needs}

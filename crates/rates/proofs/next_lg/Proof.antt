@@ -2,7 +2,7 @@
 use Prim.Native.Nat.{ℕ, _+_, _/_, _^_, _≤_}
 use mathlib.Core.Path.{ap}
 use native.Mathlib.Omega.{arith}
-use Rattle.rates.specs.Rates.{nextLg, wOf}
+use Rattle.rates.specs.Rates.{nextLg}
 use Rattle.rates.proofs.RateLaws.{width-within, loss}
 use borrow.Author.Needs.{needs}
 use Rattle.rates.proofs.next_lg.Statement.{statement}

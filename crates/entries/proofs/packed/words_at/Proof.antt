@@ -1,5 +1,4 @@
 -- The words of the block that m is in.
-use Prim.Native.Nat.{ℕ, _/_, _%_}
 use mathlib.Core.Path.{_∙_}
 use native.Mathlib.Omega.{arith}
 use Rattle.entries.proofs.WordLaws.{last, in-block}
