@@ -1,7 +1,6 @@
 // The tables of rates, as they are read: from words of read-only memory, four entries each.
 use rates::Rate;
 ghost use mathlib.Core.Path.{_≡_};
-ghost use Prim.Native.Nat.{_≤_};
 ghost use Rattle.rates.specs.Rates.{nextLg, wOf};
 ghost use Rattle.entries.specs.Entries.{entryOf};
 ghost use Rattle.entries.specs.Inside.{pickOf, readOf};
@@ -28,7 +27,6 @@ fn picked(words: Words, w: u32) -> u64
 
 // The entry of the table for w at an lg. Both functions below call it, so that it is not inlined and they are: docs/PERFORMANCE.md.
 fn read(w: u32, lg: u32) -> u32
-    requires { ⌜ (3 ≤ w) × (w ≤ 5) ⌝ }
     ensures { λ r. ⌜ r ≡ readOf w lg ⌝ }
 {
     let word = picked(packed::words_at(lg / 4), w);

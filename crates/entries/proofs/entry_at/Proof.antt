@@ -2,7 +2,6 @@
 use Prim.Native.Nat.{_≤_}
 use mathlib.Core.Path.{sym, ap, _∙_}
 use native.Mathlib.Omega.{arith}
-use Rattle.rates.proofs.RateLaws.{width-within}
 use Rattle.entries.specs.Inside.{readOf}
 use Rattle.entries.specs.declared.Entry.the-variants.{Lg}
 use Rattle.entries.proofs.WordLaws.{read-is}
@@ -18,7 +17,7 @@ width-requires : tie.Need-width-requires
 width-requires c κs = search needs
 
 read-requires : tie.Need-read-requires
-read-requires c κs = rw (c .width .ensures) (width-within (c .before .before .args .rate))
+read-requires c κs = search needs
 
 returns-2 : tie.Need-returns-2
 returns-2 c =

@@ -1,7 +1,6 @@
 -- The entry within the table, and the formula past it.
 use mathlib.Core.Path.{ap, _∙_}
 use native.Mathlib.Omega.{arith}
-use Rattle.rates.proofs.RateLaws.{width-within}
 use Rattle.entries.specs.Inside.{readOf}
 use Rattle.entries.proofs.WordLaws.{read-is}
 use borrow.Author.Needs.{needs}
@@ -18,7 +17,7 @@ width-requires : tie.Need-width-requires
 width-requires c κs = search needs
 
 read-requires : tie.Need-read-requires
-read-requires c κs = rw (c .width .ensures) (width-within (c .before .before .args .rate))
+read-requires c κs = search needs
 
 returns-2 : tie.Need-returns-2
 returns-2 c =
