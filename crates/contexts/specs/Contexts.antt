@@ -1,4 +1,5 @@
--- Document 01, "Bins": a context's ranges, a fresh context, and "Update", in the document's order.
+-- Document 01, "Bins": a context's ranges, a fresh context, and "Update", in the document's order. What goes by the rate is of the
+-- crate rates: w, and what lg loses and gains.
 use Prim.Native.Nat.{ℕ, _+_, _-_, min}
 use mathlib.Core.Bool.{Bool, cond, _&&_}
 use lib.Dec.{leb, eqb}

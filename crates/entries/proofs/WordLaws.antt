@@ -14,17 +14,17 @@ use Rattle.entries.specs.Inside.{wordsOf, readOf}
 
 -- ── the arm for all numbers that are left ──
 
--- x is none of the n least numbers
-abbrev None : ℕ → ℕ → Type 0
-None zero x = Unit {0}
-None (suc n) x = None n x × (x ≡ n → ⊥)
+-- x is none of the numbers below n
+abbrev NoneBelow : ℕ → ℕ → Type 0
+NoneBelow zero x = Unit {0}
+NoneBelow (suc n) x = NoneBelow n x × (x ≡ n → ⊥)
 
-past : (n x : ℕ) → None n x → n ≤ x
+past : (n x : ℕ) → NoneBelow n x → n ≤ x
 past zero x h = omega arith
 past (suc n) x (h, k) = let l = past n x h in omega (arith, k)
 
 -- the next number is the one that is left
-pub last : (n x : ℕ) → None n x → x < n + 1 → x ≡ n
+pub last : (n x : ℕ) → NoneBelow n x → x < n + 1 → x ≡ n
 last n x h l = let p = past n x h in omega arith
 
 -- the words of m, among the b-th 32 of 256

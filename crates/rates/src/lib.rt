@@ -1,6 +1,5 @@
 // What belongs to a context's rate: w by the cycno, the gain, the next lg by the formula, and the tables of it.
 ghost use mathlib.Core.Path.{_≡_};
-ghost use Prim.Native.Nat.{_≤_};
 ghost use Rattle.rates.specs.Rates.{wOf, rateOf, nextLg, gainOf};
 ghost use Rattle.rates.specs.Tables.{tables};
 

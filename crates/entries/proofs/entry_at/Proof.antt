@@ -11,7 +11,7 @@ use Rattle.entries.proofs.entry_at.Statement.{statement}
 use Rattle.entries.proofs.entry_at.Tie as tie
 
 returns : tie.Need-returns
-returns c = let a = c .before .args in sym (entry-not-given (a .rate) (a .index) (c .if1 .taken))
+returns c = let a = c .before .args in sym (entry-not-given (a .rate) (a .index) (omega arith))
 
 width-requires : tie.Need-width-requires
 width-requires c κs = search needs
