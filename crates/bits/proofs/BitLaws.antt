@@ -4,9 +4,10 @@ use mathlib.Core.Path.{_≡_, refl, sym, ap, _∙_}
 use mathlib.Core.List.{List, [], _∷_, _++_}
 use mathlib.Core.Logic.{_⊎_, inl, inr}
 use native.Mathlib.Omega.{arith}
-use native.Mathlib.Nat.{mod-lt, pow-suc, div-one, div-div-eq-div-mul}
+use native.Mathlib.Nat.{zero-add, suc-add, mod-lt, pow-suc, pow-succ', div-one, div-div-eq-div-mul}
 use borrow.Author.Tests.{le-leb, lt-leb}
 use lib.ListN.{length, getD, take, drop, replicate, length-append, length-take, length-drop, drop-of-length-le, List·getD-append}
+use lib.Pow.{shr-shr, field, mod-mod-pow}
 use lib.Seq.{drop-drop, getD-take, getD-append-add}
 use Rattle.bits.specs.Lists.{All}
 use Rattle.answers.specs.Results.{Result, good, bad}
@@ -17,7 +18,7 @@ use Rattle.bits.specs.declared.Bit.the-variants as bit
 use Rattle.bits.specs.declared.Read.the-variants as read
 use Rattle.bits.proofs.ListLaws.{all-append, all-drop, all-take, at-head}
 
--- ── the bits of numbers and bytes ──
+-- ── the bits of numbers ──
 
 pub length-in : (w n : ℕ) → length (bitsIn w n) ≡ w
 unfolding bitsIn
@@ -29,6 +30,36 @@ unfolding bitsIn
 bit-in zero n j h = absurd (omega arith)
 bit-in (suc w) n zero h = let e : suc w - 1 - zero ≡ w = omega arith in rw e
 bit-in (suc w) n (suc j) h = let e : suc w - 1 - suc j ≡ w - 1 - j = omega arith in rw e (bit-in w n j (omega arith))
+
+-- ── the last bits of a number ──
+
+-- a + b of them are a and then b
+pub in-append : (a b n : ℕ) → bitsIn (a + b) n ≡ bitsIn a (n / 2 ^ b) ++ bitsIn b n
+unfolding bitsIn
+in-append zero b n = rw zero-add
+in-append (suc a) b n =
+    let c : a + b ≡ b + a = omega arith in
+    let h : n / 2 ^ (a + b) ≡ n / 2 ^ b / 2 ^ a = ap (λ (x : ℕ). n / 2 ^ x) c ∙ sym (shr-shr n b a) in
+    rw (suc-add a b, h, in-append a b n)
+
+-- and the last one is whether it is odd
+pub in-snoc : (w n : ℕ) → bitsIn (suc w) n ≡ bitsIn w (n / 2) ++ (n % 2 ∷ [])
+unfolding bitsIn
+in-snoc zero n = simp div-one
+in-snoc (suc w) n = rw (pow-succ' 2 w, ← div-div-eq-div-mul n 2 (2 ^ w)) (ap (λ (l : List ℕ). (n / 2 / 2 ^ w % 2) ∷ l) (in-snoc w n))
+
+-- no others count
+pub in-low : (w n : ℕ) → bitsIn w (n % 2 ^ w) ≡ bitsIn w n
+unfolding bitsIn
+in-low zero n = refl
+in-low (suc w) n =
+    let e : suc w ≡ 1 + w = omega arith in
+    let f = field n 1 w in
+    let b : n % 2 ^ suc w / 2 ^ w % 2 ≡ n / 2 ^ w % 2 = rw e (omega arith) in
+    let m : n % 2 ^ suc w % 2 ^ w ≡ n % 2 ^ w = rw e (mod-mod-pow n 1 w) in
+    rw (b, ← in-low w (n % 2 ^ suc w), m, in-low w n)
+
+-- ── the bits of bytes ──
 
 pub length-bits : (s : List ℕ) → length (bitsOf s) ≡ length s * 8
 unfolding bitsOf

@@ -3,33 +3,12 @@ use Prim.Native.Nat.{ℕ, zero, suc, _+_, _-_, _*_, _/_, _%_, _^_, _≤_, _<_}
 use mathlib.Core.Path.{_≡_, refl, sym, ap, _∙_}
 use mathlib.Core.List.{List, [], _∷_, _++_}
 use native.Mathlib.Omega.{arith}
-use native.Mathlib.Nat.{zero-add, suc-add}
 use lib.ListN.{length, getD, take, drop}
-use lib.Pow.{pow-add, shr-shr, field, mod-mod-pow}
+use lib.Pow.{pow-add}
 use lib.Seq.{take-add, take-at, take-take, drop-at, drop-append-add, drop-drop}
 use Rattle.bits.specs.Bits.{bitsIn, bitsOf, payload}
-use Rattle.bits.proofs.BitLaws.{length-in}
+use Rattle.bits.proofs.BitLaws.{length-in, in-append, in-low}
 use Rattle.bits.proofs.ListLaws.{drop-take}
-
--- the last a + b bits of a number are a of them and then b
-in-append : (a b n : ℕ) → bitsIn (a + b) n ≡ bitsIn a (n / 2 ^ b) ++ bitsIn b n
-unfolding bitsIn
-in-append zero b n = rw zero-add
-in-append (suc a) b n =
-    let c : a + b ≡ b + a = omega arith in
-    let h : n / 2 ^ (a + b) ≡ n / 2 ^ b / 2 ^ a = ap (λ (x : ℕ). n / 2 ^ x) c ∙ sym (shr-shr n b a) in
-    rw (suc-add a b, h, in-append a b n)
-
--- and only they count
-in-low : (w n : ℕ) → bitsIn w (n % 2 ^ w) ≡ bitsIn w n
-unfolding bitsIn
-in-low zero n = refl
-in-low (suc w) n =
-    let e : suc w ≡ 1 + w = omega arith in
-    let f = field n 1 w in
-    let b : n % 2 ^ suc w / 2 ^ w % 2 ≡ n / 2 ^ w % 2 = rw e (omega arith) in
-    let m : n % 2 ^ suc w % 2 ^ w ≡ n % 2 ^ w = rw e (mod-mod-pow n 1 w) in
-    rw (b, ← in-low w (n % 2 ^ suc w), m, in-low w n)
 
 -- the bits of the byte at q head what is left there
 byte-bits : (s : List ℕ) (q : ℕ) → q < length s → drop (q * 8) (bitsOf s) ≡ bitsIn 8 (getD s q 0) ++ drop ((q + 1) * 8) (bitsOf s)
