@@ -5,12 +5,12 @@ use mathlib.Core.List.{List, [], _∷_, _++_, append-assoc, append-nil}
 use mathlib.Core.Bool.{true, cond, _&&_, and-false}
 use native.Mathlib.Omega.{arith}
 use native.Mathlib.Numerals.{add-one}
-use native.Mathlib.Nat.{pow-suc}
+use native.Mathlib.Nat.{mod-lt}
 use lib.Bits.{and-mask, bitAnd}
 use lib.Dec.{eqb, leb}
 use lib.ListN.{length, getD, take, drop, set, length-append, length-set, drop-of-length-le, take-append-drop}
-use lib.Pow.{shl-lt, shl-exact}
-use lib.Seq.{take-suc, take-all, take-suc-set, drop-set-lt, drop-drop, length-take-le, set-split}
+use lib.Pow.{pow-pos, shl-lt, shl-exact, mod-mod-pow}
+use lib.Seq.{take-all, take-suc-set, drop-set-lt, drop-drop, length-take-le, set-split}
 use borrow.Author.Tests.{le-leb, lt-ltb, le-ltb}
 use Rattle.answers.specs.Answers.{done, refused, FULL, TOO-LONG}
 use Rattle.answers.specs.Limits.{longestPayload}
@@ -18,64 +18,10 @@ use Rattle.bits.specs.Bits.{bitsIn, packOn, pack}
 use Rattle.bits.proofs.ListLaws.{at-head}
 use Rattle.bits.proofs.TestLaws.{by-test}
 use Rattle.bits.proofs.BitLaws.{length-in, bit-in}
-use Rattle.bits.proofs.PackingLaws.{pack-more, pack-full, pack-none, pack-last}
+use Rattle.bits.proofs.PackingLaws.{pack-few, pack-over, pack-none, pack-last}
 use Rattle.payload.specs.Escape.{kept, copied, unescaped, removal}
-use Rattle.payload.specs.Inside.{keptWidth, Partial, Pushed, Copied}
+use Rattle.payload.specs.Inside.{keptWidth, Partial, waits, Joined, Pushed, Copied}
 use Rattle.payload.specs.declared.Packer.{Packer}
-
--- ── one bit is pushed ──
-
-pub pushed-none : (out : List ℕ) (p : Packer) → Partial p → Pushed out out p p []
-pushed-none out p h = record { same = refl; partial = h; count = omega arith; made = λ rest. refl; left = refl }
-
-module _ (out₀ out : List ℕ) (p₀ : Packer) (full value k b v : ℕ) (l : List ℕ) (w : Pushed out₀ out p₀ (record { full = full; value = value; k = k }) l) (e : v ≡ value * 2 + b) (i : b < 2) where
-  follows : (rest : List ℕ) →
-      take full out ++ packOn value k (b ∷ rest) ≡ take (p₀ .full) out₀ ++ packOn (p₀ .value) (p₀ .k) ((l ++ (b ∷ [])) ++ rest)
-  follows rest = w .made (b ∷ rest) ∙ ap (λ (x : List ℕ). take (p₀ .full) out₀ ++ packOn (p₀ .value) (p₀ .k) x) (sym (append-assoc l (b ∷ []) rest))
-
-  counted : length (l ++ (b ∷ [])) ≡ length l + 1
-  counted = length-append l (b ∷ [])
-
-  pushed-more : (k ≡ 7 → ⊥) → Pushed out₀ out p₀ (record { full = full; value = v; k = k + 1 }) (l ++ (b ∷ []))
-  pushed-more n =
-      let c = counted in
-      let q : 2 ^ (k + 1) ≡ 2 ^ k * 2 = rw add-one (pow-suc 2 k) in
-      record {
-        same = w .same;
-        partial = record { few = omega (arith, w .partial .few); small = omega (arith, w .partial .small) };
-        count = omega (arith, w .count);
-        made = λ rest. ap (λ (x : ℕ). take full out ++ packOn x (k + 1) rest) e ∙ ap (λ (x : List ℕ). take full out ++ x) (sym (pack-more value k b rest n)) ∙ follows rest;
-        left = w .left;
-      }
-
-  pushed-full : k ≡ 7 → full < length out → Pushed out₀ (set out full v) p₀ (record { full = full + 1; value = 0; k = 0 }) (l ++ (b ∷ []))
-  pushed-full n h =
-      let c = counted in
-      let t : take (full + 1) (set out full v) ≡ take full out ++ (v ∷ []) = rw add-one (take-suc-set out full v h) in
-      record {
-        same = length-set out full v ∙ w .same;
-        partial = record { few = omega arith; small = omega arith };
-        count = omega (arith, w .count);
-        made = λ rest.
-            ap (λ (x : List ℕ). x ++ packOn 0 0 rest) t ∙ append-assoc (take full out) (v ∷ []) (packOn 0 0 rest)
-            ∙ ap (λ (x : ℕ). take full out ++ (x ∷ packOn 0 0 rest)) e ∙ ap (λ (x : List ℕ). take full out ++ x) (sym (pack-full value k b rest n)) ∙ follows rest;
-        left = drop-set-lt (full + 1) out full v (omega arith) ∙ sym (drop-drop 1 full out) ∙ ap (drop 1) (w .left) ∙ drop-drop 1 full out₀;
-      }
-
--- ── two bits are pushed, where no byte gets full between them ──
-
-module _ (out₀ out : List ℕ) (p₀ : Packer) (full value k b c v : ℕ) (l : List ℕ) (w : Pushed out₀ out p₀ (record { full = full; value = value; k = k }) l)
-    (even : k % 2 ≡ 0) (e : v ≡ (value * 2 + b) * 2 + c) (i : b < 2) (j : c < 2) where
-  first : Pushed out₀ out p₀ (record { full = full; value = value * 2 + b; k = k + 1 }) (l ++ (b ∷ []))
-  first = pushed-more out₀ out p₀ full value k b (value * 2 + b) l w refl i (λ n. omega arith)
-
-  pub pair-more : (k ≡ 6 → ⊥) → Pushed out₀ out p₀ (record { full = full; value = v; k = k + 2 }) (l ++ (b ∷ []) ++ (c ∷ []))
-  pair-more n =
-      let two : k + 2 ≡ k + 1 + 1 = omega arith in
-      rw two (pushed-more out₀ out p₀ full (value * 2 + b) (k + 1) c v (l ++ (b ∷ [])) first e j (λ m. n (omega arith)))
-
-  pub pair-full : k ≡ 6 → full < length out → Pushed out₀ (set out full v) p₀ (record { full = full + 1; value = 0; k = 0 }) (l ++ (b ∷ []) ++ (c ∷ []))
-  pair-full n = pushed-full out₀ out p₀ full (value * 2 + b) (k + 1) c v (l ++ (b ∷ [])) first e j (omega arith)
 
 -- ── the bits of a byte ──
 
@@ -83,17 +29,56 @@ module _ (out₀ out : List ℕ) (p₀ : Packer) (full value k b c v : ℕ) (l :
 pub picked : (b x j : ℕ) → x ≡ b → j < 8 → (bitAnd (x / 2 ^ (7 - j)) 1 ≡ getD (bitsIn 8 b) j 0) × (bitAnd (x / 2 ^ (7 - j)) 1 < 2)
 picked b x j e h = let m = and-mask (x / 2 ^ (7 - j)) 1 in (m ∙ ap (λ (y : ℕ). y / 2 ^ (7 - j) % 2) e ∙ sym (bit-in 8 b j h), omega arith)
 
-take-bit : (b j : ℕ) → j < 8 → take (j + 1) (bitsIn 8 b) ≡ take j (bitsIn 8 b) ++ (getD (bitsIn 8 b) j 0 ∷ [])
-take-bit b j h = let l = length-in 8 b in rw add-one (take-suc (bitsIn 8 b) j 0 (omega arith))
-
-pub take-pair : (b j x y : ℕ) → x ≡ getD (bitsIn 8 b) j 0 → y ≡ getD (bitsIn 8 b) (j + 1) 0 → j + 1 < 8 →
-    take (j + 2) (bitsIn 8 b) ≡ take j (bitsIn 8 b) ++ (x ∷ []) ++ (y ∷ [])
-take-pair b j x y p q h =
-    let n : j + 2 ≡ j + 1 + 1 = omega arith in
-    rw (n, p, q) (take-bit b (j + 1) h ∙ ap (λ (l : List ℕ). l ++ (getD (bitsIn 8 b) (j + 1) 0 ∷ [])) (take-bit b j (omega arith)))
-
 pub take-bits : (b j : ℕ) → j ≤ 8 → length (take j (bitsIn 8 b)) ≡ j
 take-bits b j h = let l = length-in 8 b in length-take-le j (bitsIn 8 b) (omega arith)
+
+-- ── bits are pushed ──
+
+module _ (out : List ℕ) (full value k byte width v : ℕ) (few : k < 8) (g : Joined value byte width v) where
+  -- what the bits above those of the byte are
+  older : v / 2 ^ width % 2 ^ k ≡ value % 2 ^ k
+  older =
+      let e : 8 - k + k ≡ 8 = omega arith in
+      ap (λ (x : ℕ). x % 2 ^ k) (g .older) ∙ (rw e at (mod-mod-pow value (8 - k) k))
+
+  -- a byte gets full, and d bits wait then
+  pub pushed-out : (d : ℕ) → d + 8 ≡ k + width → width ≤ 8 → full < length out →
+      Pushed out (set out full (v / 2 ^ d % 256)) (waits (record { full = full; value = value; k = k })) (waits (record { full = full + 1; value = v; k = d })) (take width (bitsIn 8 byte))
+  pushed-out d e m h =
+      let x = v / 2 ^ d % 256 in
+      let w : width ≡ suc (7 - k) + d = omega arith in
+      let o : v / 2 ^ (suc (7 - k) + d) % 2 ^ k ≡ value % 2 ^ k = rw w at older in
+      let bits : take width (bitsIn 8 byte) ≡ bitsIn (suc (7 - k) + d) v = sym (g .bits) ∙ ap (λ (n : ℕ). bitsIn n v) w in
+      let t : take (full + 1) (set out full x) ≡ take full out ++ (x ∷ []) = rw add-one (take-suc-set out full x h) in
+      let l = take-bits byte width m in
+      record {
+        same = length-set out full x;
+        partial = record { few = omega arith; small = mod-lt v (pow-pos d) };
+        count = omega arith;
+        made = λ rest.
+            ap (λ (y : List ℕ). y ++ packOn (v % 2 ^ d) d rest) t ∙ append-assoc (take full out) (x ∷ []) (packOn (v % 2 ^ d) d rest)
+            ∙ ap (λ (y : List ℕ). take full out ++ y) (sym (pack-over (value % 2 ^ k) k (7 - k) d v rest (omega arith) (omega arith) o))
+            ∙ ap (λ (y : List ℕ). take full out ++ packOn (value % 2 ^ k) k (y ++ rest)) (sym bits);
+        left = drop-set-lt (full + 1) out full x (omega arith);
+      }
+
+  -- none waited, and all that come wait
+  pub pushed-in : k ≡ 0 → width < 8 →
+      Pushed out out (waits (record { full = full; value = value; k = k })) (waits (record { full = full; value = v; k = width })) (take width (bitsIn 8 byte))
+  pushed-in z m =
+      let l = take-bits byte width (omega arith) in
+      let n : value % 2 ^ k ≡ 0 = rw z (omega arith) in
+      let f : 0 * 2 ^ width + v % 2 ^ width ≡ v % 2 ^ width = omega arith in
+      let i : 0 + width ≡ width = omega arith in
+      record {
+        same = refl;
+        partial = record { few = m; small = mod-lt v (pow-pos width) };
+        count = omega arith;
+        made = λ rest.
+            ap (λ (y : List ℕ). take full out ++ y)
+            (sym (ap (λ (y : List ℕ). packOn (value % 2 ^ k) k (y ++ rest)) (sym (g .bits)) ∙ rw (n, z) (pack-few width 0 0 v rest (omega arith) ∙ rw (f, i))));
+        left = refl;
+      }
 
 -- ── the bits that stay ──
 

@@ -1,3 +1,4 @@
+pub mod JoinedLaws
 pub mod EscapeLaws
 pub mod GolombLaws
 pub mod GolombTheorems

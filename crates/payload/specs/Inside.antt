@@ -1,11 +1,11 @@
 -- What the private functions promise one another; no part of document 01.
-use Prim.Native.Nat.{ℕ, _+_, _*_, _%_, _^_, _≤_, _<_}
+use Prim.Native.Nat.{ℕ, _+_, _*_, _/_, _%_, _^_, _≤_, _<_}
 use mathlib.Core.Path.{_≡_}
 use mathlib.Core.List.{List, [], _++_}
 use mathlib.Core.Bool.{cond, _&&_}
 use lib.Dec.{leb, eqb}
 use lib.ListN.{length, take, drop}
-use Rattle.bits.specs.Bits.{packOn, pack}
+use Rattle.bits.specs.Bits.{bitsIn, packOn, pack}
 use Rattle.payload.specs.Escape.{unescaped}
 use Rattle.payload.specs.declared.Packer.{Packer}
 
@@ -17,6 +17,15 @@ keptWidth zeros byte = cond (leb 2 zeros && eqb byte 2) 6 8
 pub record Partial (p : Packer) : Type 0 where
   pub few : p .k < 8
   pub small : p .value < 2 ^ p .k
+
+-- what a packer means: the last k bits of its value wait, and older ones are out already
+abbrev pub waits : Packer → Packer
+waits p = record { full = p .full; value = p .value % 2 ^ p .k; k = p .k }
+
+-- the first width bits of a byte stand after the last eight of v
+pub record Joined (v byte width r : ℕ) : Type 0 where
+  pub older : r / 2 ^ width ≡ v % 256
+  pub bits : bitsIn width r ≡ take width (bitsIn 8 byte)
 
 -- what pushing asks: bits come in pairs, and there is room for them
 pub record Pushable (out : List ℕ) (p : Packer) (width : ℕ) : Type 0 where

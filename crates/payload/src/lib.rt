@@ -12,7 +12,7 @@ ghost use Rattle.bits.specs.Bits.{bitsIn, packOn, payload};
 ghost use Rattle.payload.specs.Escape.{removal, outputAfter, removedSays};
 ghost use Rattle.payload.specs.Golomb.{golombSays, standsFor, signedSays};
 ghost use Rattle.payload.specs.Reader.{zerosOn, golomb, signedGolomb};
-ghost use Rattle.payload.specs.Inside.{keptWidth, Partial, Pushable, Pushed, Copied};
+ghost use Rattle.payload.specs.Inside.{keptWidth, Partial, waits, Joined, Pushable, Pushed, Copied};
 
 // The most bytes of a payload.
 const LIMIT: usize = 65536;
@@ -26,7 +26,7 @@ pub enum Removed {
     TooLong,
 }
 
-// `full` bytes are written; k bits that write `value` are not yet.
+// `full` bytes are written; the last k bits of `value` are not yet.
 struct Packer {
     full: usize,
     value: u32,
@@ -41,32 +41,58 @@ fn bit_of(byte: u8, j: u32) -> u32
     bits::wide(byte) >> (7 - j) & 1
 }
 
-// The first width bits of a byte are pushed, two a turn: counts stay even, so a byte gets full only at a turn's end.
-fn push_bits(out: &mut [u8], p: Packer, byte: u8, width: u32) -> Packer
-    requires { ⌜ Pushable (now out) p width ⌝ }
-    ensures { λ r. ⌜ Pushed (now (out .entry)) (now (out .exit)) p r (take width (bitsIn 8 byte)) ⌝ }
+// The last eight bits of v, and after them the first width bits of a byte, one a turn.
+fn joined(v: u32, byte: u8, width: u32) -> u32
+    requires { ⌜ width ≤ 8 ⌝ }
+    ensures { λ r. ⌜ Joined v byte width r ⌝ }
 {
-    let mut full = p.full;
-    let mut value = p.value;
-    let mut k = p.k;
+    let mut w = v % 256;
     let mut j: u32 = 0;
     while j < width {
-        value = (value << 1) + bit_of(byte, j);
-        value = (value << 1) + bit_of(byte, j + 1);
-        if k == 6 {
-            out[full] = value as u8;
-            full += 1;
-            value = 0;
-            k = 0;
-        } else {
-            k += 2;
-        }
-        j += 2;
+        w = (w << 1) + bit_of(byte, j);
+        j += 1;
     }
+    w
+}
+
+// All bits of a byte are pushed: the oldest eight go out, and as many wait as before.
+fn push_byte(out: &mut [u8], p: Packer, byte: u8) -> Packer
+    requires { ⌜ Pushable (now out) (waits p) 8 ⌝ }
+    ensures { λ r. ⌜ Pushed (now (out .entry)) (now (out .exit)) (waits p) (waits r) (take 8 (bitsIn 8 byte)) ⌝ }
+{
+    let full = p.full;
+    let value = p.value;
+    let k = p.k;
+    let v = joined(value, byte, 8);
+    out[full] = ((v >> k) % 256) as u8;
     Packer {
-        full: full,
-        value: value,
+        full: full + 1,
+        value: v,
         k: k,
+    }
+}
+
+// The first six bits of a byte are pushed: two fewer wait than before, or six where none did.
+fn push_six(out: &mut [u8], p: Packer, byte: u8) -> Packer
+    requires { ⌜ Pushable (now out) (waits p) 6 ⌝ }
+    ensures { λ r. ⌜ Pushed (now (out .entry)) (now (out .exit)) (waits p) (waits r) (take 6 (bitsIn 8 byte)) ⌝ }
+{
+    let full = p.full;
+    let value = p.value;
+    let k = p.k;
+    let v = joined(value, byte, 6);
+    if k == 0 {
+        return Packer {
+            full: full,
+            value: v,
+            k: 6,
+        };
+    }
+    out[full] = ((v >> (k - 2)) % 256) as u8;
+    Packer {
+        full: full + 1,
+        value: v,
+        k: k - 2,
     }
 }
 
@@ -88,15 +114,28 @@ fn zeros_after(zeros: usize, byte: u8) -> usize
     if byte == 0 { zeros + 1 } else { 0 }
 }
 
-// Bits that stay of a byte are pushed. Each width stands as a number, for the compiler to unroll the loop over it.
+// Bits that stay of a byte are pushed.
 fn push_kept(out: &mut [u8], p: Packer, byte: u8, width: u32) -> Packer
-    requires { ⌜ (6 ≤ width) × Pushable (now out) p width ⌝ }
-    ensures { λ r. ⌜ Pushed (now (out .entry)) (now (out .exit)) p r (take width (bitsIn 8 byte)) ⌝ }
+    requires { ⌜ (6 ≤ width) × Pushable (now out) (waits p) width ⌝ }
+    ensures { λ r. ⌜ Pushed (now (out .entry)) (now (out .exit)) (waits p) (waits r) (take width (bitsIn 8 byte)) ⌝ }
 {
     if width == 8 {
-        push_bits(out, p, byte, 8)
+        push_byte(out, p, byte)
     } else {
-        push_bits(out, p, byte, 6)
+        push_six(out, p, byte)
+    }
+}
+
+// The bits that wait, and no older ones.
+fn settled(p: Packer) -> Packer
+    requires { ⌜ p .k < 8 ⌝ }
+    ensures { λ r. ⌜ r ≡ waits p ⌝ }
+{
+    let one: u32 = 1;
+    Packer {
+        full: p.full,
+        value: p.value % (one << p.k),
+        k: p.k,
     }
 }
 
@@ -119,7 +158,7 @@ fn copy_bits(raw: &[u8], out: &mut [u8]) -> Packer
         zeros = zeros_after(zeros, byte);
         i += 1;
     }
-    p
+    settled(p)
 }
 
 // The last byte is filled with zeros and written; the answer is the bit count.

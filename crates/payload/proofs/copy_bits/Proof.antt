@@ -3,12 +3,13 @@ use Prim.Native.Nat.{_-_}
 use native.Mathlib.Omega.{arith}
 use borrow.Author.Needs.{needs}
 use lib.ListN.{length, getD}
+use Rattle.payload.specs.Inside.{waits}
 use Rattle.payload.proofs.EscapeLaws.{Copying, copying-start, copying-step, copying-end, width-is}
 use Rattle.payload.proofs.copy_bits.Statement.{statement}
 use Rattle.payload.proofs.copy_bits.Tie as tie
 
 abbrev Inv-loop : tie.InvT-loop
-Inv-loop raw out₀ p₀ zeros₀ i₀ out p zeros i = Copying raw out₀ out p zeros i
+Inv-loop raw out₀ p₀ zeros₀ i₀ out p zeros i = Copying raw out₀ out (waits p) zeros i
 
 abbrev μ-loop : tie.MeasureT-loop
 μ-loop raw out₀ p₀ zeros₀ i₀ out p zeros i = length raw - i
@@ -49,17 +50,21 @@ loop-again c =
     let w = u .before .before in
     let l = w .before .before .before in
     let a = l .before .before .before in
-    copying-step (a .args .raw .now) (a .args .out .now) (l .loop .out) (l .loop .p) (l .loop .zeros) (l .loop .i) (l .loop .inv) _ (u .push-kept .result) (w .kept-width .result) (c .zeros-after .result)
+    copying-step (a .args .raw .now) (a .args .out .now) (l .loop .out) (waits (l .loop .p)) (l .loop .zeros) (l .loop .i) (l .loop .inv) _ (waits (u .push-kept .result)) (w .kept-width .result) (c .zeros-after .result)
     (w .before .before .loop-test .taken) (w .kept-width .ensures) (c .zeros-after .ensures) (u .push-kept .ensures)
+
+settled-requires : tie.Need-settled-requires Inv-loop μ-loop
+settled-requires c κs = c .before .loop .inv .partial .few
 
 same-length : tie.Need-same-length Inv-loop μ-loop
 same-length c = search needs
 
 returns : tie.Need-returns Inv-loop μ-loop
 returns c =
-    let l = c .before in
+    let t = c .before in
+    let l = t .before in
     let a = l .before .before .before in
-    copying-end (a .args .raw .now) (a .args .out .now) (l .loop .out) (l .loop .p) (l .loop .zeros) (l .loop .i) (l .loop .inv) (c .loop-test .left)
+    rw (c .settled .ensures) (copying-end (a .args .raw .now) (a .args .out .now) (l .loop .out) (waits (l .loop .p)) (l .loop .zeros) (l .loop .i) (l .loop .inv) (t .loop-test .left))
 
 pub copy-bits-spec : {M : Type 1} → statement M
 copy-bits-spec =
@@ -75,5 +80,6 @@ copy-bits-spec =
     add-i
     loop-less
     loop-again
+    settled-requires
     same-length
     returns)
