@@ -1,11 +1,13 @@
 -- The laws of the two passes.
-use Prim.Native.Nat.{ℕ, suc, _≤_, _<_, _+_, _*_}
+use Prim.Native.Nat.{ℕ, zero, suc, _≤_, _<_, _+_, _-_, _*_}
 use mathlib.Core.Path.{_≡_, refl, sym, _∙_, ap, subst}
 use mathlib.Core.Logic.{inl, inr}
 use mathlib.Core.List.{List, [], _∷_, _++_, append-assoc, append-nil}
 use mathlib.Core.Bool.{Bool, true, false, cond}
 use lib.ListN.{length, getD, take, drop, set, length-append, length-drop, take-append-drop}
-use lib.Seq.{drop-drop, take-at, drop-at, length-take-le, sets-eq}
+use lib.Seq.{drop-drop, take-at, drop-at, length-take-le, sets-eq, getD-set-other}
+use lib.Dec.{eqb, ltb}
+use borrow.Author.Tests.{eqb-true, eqb-false}
 use native.Mathlib.Numerals.{add-one, add-two}
 use native.Mathlib.Omega.{arith}
 use Rattle.answers.specs.Limits.{longestStream}
@@ -21,6 +23,7 @@ use Rattle.grammar.specs.Rows.{Placed, placed, rowLength, rowsFrom, words}
 use Rattle.grammar.specs.Reader.{final, Stopped, Walk, stopAt, addUnit, walkOfAny, said}
 use Rattle.grammar.specs.declared.State.{State}
 use Rattle.grammar.specs.declared.State.the-variants.{Start}
+use Rattle.grammar.specs.declared.Reason.{Reason}
 use Rattle.grammar.specs.declared.Reason.the-variants.{NoCode, Unended}
 use Rattle.grammar.proofs.Division.{Goes, sequence, user, extension, display, first-picture, extra, first-slice, next-slice, next-picture, next-sequence, end as sequence-end, edit, end-edit}
 use Rattle.grammar.proofs.RowLaws.{rows-length}
@@ -30,7 +33,9 @@ use Rattle.units.specs.Inside.{extensionScope}
 use Rattle.units.proofs.LengthLaws.{scope-same}
 use Rattle.units.proofs.UnitLaws.{Advanced, stands}
 use Rattle.filing.specs.Filing.{wordsAfter}
-use Rattle.filing.specs.Inside.{scopeAfter, Writable}
+use Rattle.filing.specs.Inside.{offsetOf, shortSpan, Spans, Kept, checkedGives, Passed, scopeAfter, Writable}
+use Rattle.filing.specs.declared.Checked.{Checked}
+use Rattle.filing.specs.declared.Checked.the-variants as checked
 
 pub any-left : (s : List ℕ) → begins s ≡ true → walkOfAny s ≡ left s Start 0
 unfolding walkOfAny left
@@ -50,19 +55,71 @@ count-start : (w : Walk) → mapGood length w ≡ counted 0 w
 count-start (good ms) = ap good (omega arith)
 count-start (bad s) = refl
 
+-- ── spans that are kept ──
+
+-- a span that fits leads to the end, and 0 stands for one that does not
+short-spans : (at end : ℕ) → at ≤ end → Spans (shortSpan (end - at)) at end
+short-spans at end h =
+    by-test (ltb (end - at) 65536)
+    (λ t. rw t (λ n. omega arith))
+    (λ f. rw f (λ n. absurd (n refl)))
+
+-- it is kept, or there is no word for it
+set-spans : (l : List ℕ) (k x at end : ℕ) → Spans x at end → Spans (getD (set l k x) k 0) at end
+set-spans [] zero x at end h = λ n. absurd (n refl)
+set-spans [] (suc k) x at end h = λ n. absurd (n refl)
+set-spans (y ∷ l) zero x at end h = h
+set-spans (y ∷ l) (suc k) x at end h = set-spans l k x at end h
+
+kept-none : (s spans : List ℕ) → Kept s spans 0
+kept-none s spans = record { span = λ i h. absurd (omega arith) }
+
+kept-more : (s spans : List ℕ) (k at end : ℕ) → Kept s spans k → at ≡ offsetOf s k → end ≡ offsetOf s (suc k) → at ≤ end →
+    Kept s (set spans k (shortSpan (end - at))) (k + 1)
+kept-more s spans k at end g p e h =
+    let last : Spans (getD (set spans k (shortSpan (end - at))) k 0) (offsetOf s k) (offsetOf s (suc k)) =
+    subst (Spans (getD (set spans k (shortSpan (end - at))) k 0) (offsetOf s k)) e
+    (subst (λ (n : ℕ). Spans (getD (set spans k (shortSpan (end - at))) k 0) n end) p (set-spans spans k (shortSpan (end - at)) at end (short-spans at end h))) in
+    record {
+      span = λ i l.
+          by-test (eqb i k)
+          (λ t. subst (λ (j : ℕ). Spans (getD (set spans k (shortSpan (end - at))) j 0) (offsetOf s j) (offsetOf s (suc j))) (sym (eqb-true i k t)) last)
+          (λ f.
+          let d = eqb-false i k f in
+          subst (λ (n : ℕ). Spans n (offsetOf s i) (offsetOf s (suc i))) (sym (getD-set-other spans k i (shortSpan (end - at)) 0 d)) (g .span i (omega arith)));
+    }
+
+-- a unit's end is the next one's offset
+offset-next : (s : List ℕ) (at k end : ℕ) → at ≡ offsetOf s k → end ≡ nextPrefix s (at + 3) → end ≡ offsetOf s (suc k)
+offset-next s at k end p e = e ∙ ap (λ (n : ℕ). nextPrefix s (n + 3)) p
+
 -- what holds at the first pass's head
-pub record Checking (s : List ℕ) (q : State) (at k : ℕ) : Type 0 where
+pub record Checking (s spans : List ℕ) (q : State) (at k : ℕ) : Type 0 where
+  pub place : at ≡ offsetOf s k
+  pub kept : Kept s spans k
   pub inside : at ≤ length s
   pub few : k ≤ at
   pub here : at < length s → begins (drop at s) ≡ true
   pub count : mapGood length (walkOfAny s) ≡ counted k (left s q at)
 
-pub checking-start : (s : List ℕ) → begins s ≡ true → Checking s Start 0 0
-checking-start s b = record { inside = omega arith; few = omega arith; here = λ h. b; count = ap (mapGood length) (any-left s b) ∙ count-start (left s Start 0) }
-
-pub checking-next : (s : List ℕ) (q : State) (at k : ℕ) (next : State) (end n : ℕ) → Checking s q at k → Advanced s q at next end n → Checking s next end (k + 1)
-checking-next s q at k next end n c a =
+pub checking-start : (s spans : List ℕ) → begins s ≡ true → Checking s spans Start 0 0
+checking-start s spans b =
     record {
+      place = refl;
+      kept = kept-none s spans;
+      inside = omega arith;
+      few = omega arith;
+      here = λ h. b;
+      count = ap (mapGood length) (any-left s b) ∙ count-start (left s Start 0);
+    }
+
+pub checking-next : (s spans : List ℕ) (q : State) (at k : ℕ) (next : State) (end n : ℕ) (spans′ : List ℕ) → Checking s spans q at k → Advanced s q at next end n →
+    spans′ ≡ set spans k (shortSpan (end - at)) → Checking s spans′ next end (k + 1)
+checking-next s spans q at k next end n spans′ c a e =
+    let o = offset-next s at k end (c .place) (a .end-is) in
+    record {
+      place = o ∙ ap (offsetOf s) (sym (add-one k));
+      kept = rw e (kept-more s spans k at end (c .kept) (c .place) o (omega (arith, a .forward)));
       inside = a .within;
       few = omega (arith, c .few, a .forward);
       here = a .begins-next;
@@ -70,7 +127,7 @@ checking-next s q at k next end n c a =
     }
 
 -- the end of the stream
-module _ (s : List ℕ) (q : State) (at k : ℕ) (c : Checking s q at k) (h : length s ≤ at) where
+module _ (s spans : List ℕ) (q : State) (at k : ℕ) (c : Checking s spans q at k) (h : length s ≤ at) where
   at-end : at ≡ length s
   at-end = omega (arith, c .inside)
 
@@ -88,6 +145,11 @@ module _ (s : List ℕ) (q : State) (at k : ℕ) (c : Checking s q at k) (h : le
 pub no-code : (s : List ℕ) → begins s ≡ false → stopAt NoCode 0 ≡ mapGood length (walkOfAny s)
 unfolding walkOfAny
 no-code s f = rw f
+
+-- what the first pass found wrong
+pub passed-refused : (s spans : List ℕ) (r : Checked) (why : Reason) (at : ℕ) → checkedGives r ≡ stopAt why at → stopAt why at ≡ mapGood length (walkOfAny s) → Passed s spans r
+passed-refused s spans (checked.Good n) why at e f = not-good (sym e)
+passed-refused s spans (checked.Refused w) why at e f = record { answer = e ∙ f; kept = tt }
 
 -- ── scopes ──
 
@@ -113,7 +175,7 @@ after-goes (end-edit c k) = rw c refl
 
 -- what holds at the second pass's head: the rows that are written and those that are left make the whole; of the state that the units so far
 -- lead to the pass knows the scope alone
-pub record Writing (s lent rows : List ℕ) (p : Scope) (at i : ℕ) : Type 0 where
+pub record Writing (s spans lent rows : List ℕ) (p : Scope) (at i : ℕ) : Type 0 where
   pub all : List Placed
   pub rest : List Placed
   pub state : State
@@ -128,6 +190,8 @@ pub record Writing (s lent rows : List ℕ) (p : Scope) (at i : ℕ) : Type 0 wh
   pub same : length rows ≡ length lent
   pub inside : at ≤ length s
   pub here : at < length s → begins (drop at s) ≡ true
+  pub place : at ≡ offsetOf s i
+  pub kept : Kept s spans (length all)
 
 -- the unit at an offset, by its scope
 pub record UnitHere (s : List ℕ) (p : Scope) (q : State) (at : ℕ) : Type 0 where
@@ -135,8 +199,8 @@ pub record UnitHere (s : List ℕ) (p : Scope) (q : State) (at : ℕ) : Type 0 w
   pub advanced : Advanced s q at next (nextPrefix s (at + 3)) (rowLength (placed p (unitBetween s at (nextPrefix s (at + 3)))))
   pub after : scopeAfter p (kindOf (getD s (at + 3) 0)) ≡ extensionScope next
 
-pub unit-here : (s lent rows : List ℕ) (p : Scope) (at i : ℕ) (w : Writing s lent rows p at i) → at < length s → UnitHere s p (w .state) at
-unit-here s lent rows p at i w h =
+pub unit-here : (s spans lent rows : List ℕ) (p : Scope) (at i : ℕ) (w : Writing s spans lent rows p at i) → at < length s → UnitHere s p (w .state) at
+unit-here s spans lent rows p at i w h =
     let u = unitBetween s at (nextPrefix s (at + 3)) in
     let t = stands s (w .state) at (w .rest) (w .here h) (w .rest-is) in
     let l : rowLength (placed p u) ≡ _ = ap (λ (x : Scope). rowLength (placed x u)) (w .scope-is) ∙ scope-same (w .state) u in
@@ -151,8 +215,8 @@ begun : (s : List ℕ) (ms : List Placed) → walkOfAny s ≡ good ms → begins
 unfolding walkOfAny
 begun s ms e = by-test (begins s) (λ t. t) (λ f. not-good (rw f at e))
 
-pub writing-start : (s lent : List ℕ) → Writable s lent → Writing s lent lent scope.Picture 0 0
-writing-start s lent w =
+pub writing-start : (s spans lent : List ℕ) → Writable s spans lent → Writing s spans lent lent scope.Picture 0 0
+writing-start s spans lent w =
     let b = begun s (w .all) (w .walked) in
     record {
       all = w .all;
@@ -169,10 +233,12 @@ writing-start s lent w =
       same = refl;
       inside = omega arith;
       here = λ h. b;
+      place = refl;
+      kept = w .kept;
     }
 
 -- one row more
-module _ (s lent rows : List ℕ) (p : Scope) (at i : ℕ) (next : State) (end n : ℕ) (w : Writing s lent rows p at i) (a : Advanced s (w .state) at next end n) where
+module _ (s spans lent rows : List ℕ) (p : Scope) (at i : ℕ) (next : State) (end n : ℕ) (w : Writing s spans lent rows p at i) (a : Advanced s (w .state) at next end n) where
   next-units : (rest : List Placed) × (left s next end ≡ good rest) × (a .unit ∷ rest ≡ w .rest)
   next-units = map-good (λ ms. a .unit ∷ ms) (left s next end) (w .rest) (sym (a .more) ∙ w .rest-is)
 
@@ -180,6 +246,13 @@ module _ (s lent rows : List ℕ) (p : Scope) (at i : ℕ) (next : State) (end n
   writing-room =
       let r = ap length (next-units .2) in
       omega (arith, w .count, w .room, w .same)
+
+  -- the span that was kept of it leads to its end
+  pub writing-kept : Spans (getD spans i 0) at (nextPrefix s (at + 3))
+  writing-kept =
+      let r = ap length (next-units .2) in
+      let o = offset-next s at i (nextPrefix s (at + 3)) (w .place) refl in
+      subst (λ (n : ℕ). Spans (getD spans i 0) n (nextPrefix s (at + 3))) (sym (w .place)) (subst (Spans (getD spans i 0) (offsetOf s i)) (sym o) (w .kept .span i (omega (arith, w .count))))
 
   -- the words of the row
   abbrev three : List ℕ
@@ -195,7 +268,7 @@ module _ (s lent rows : List ℕ) (p : Scope) (at i : ℕ) (next : State) (end n
   front-length : length (take (i * 3) rows ++ three) ≡ i * 3 + 3
   front-length = let r = writing-room in length-append (take (i * 3) rows) three ∙ rw (length-take-le (i * 3) rows (omega arith))
 
-  pub writing-next : (rows′ : List ℕ) (p′ : Scope) → rows′ ≡ take (i * 3) rows ++ (getD s (at + 3) 0 ∷ at ∷ n ∷ drop (i * 3 + 3) rows) → p′ ≡ extensionScope next → Writing s lent rows′ p′ end (i + 1)
+  pub writing-next : (rows′ : List ℕ) (p′ : Scope) → rows′ ≡ take (i * 3) rows ++ (getD s (at + 3) 0 ∷ at ∷ n ∷ drop (i * 3 + 3) rows) → p′ ≡ extensionScope next → Writing s spans lent rows′ p′ end (i + 1)
   writing-next rows′ p′ e f =
       let r = next-units in
       let l : suc (length (r .0)) ≡ length (w .rest) = ap length (r .2) in
@@ -224,11 +297,13 @@ module _ (s lent rows : List ℕ) (p : Scope) (at i : ℕ) (next : State) (end n
         same = ap length whole ∙ length-append (take (i * 3) rows ++ three) (drop (i * 3 + 3) rows) ∙ (let f = front-length in omega (arith, w .same));
         inside = a .within;
         here = a .begins-next;
+        place = offset-next s at i end (w .place) (a .end-is) ∙ ap (offsetOf s) (sym (add-one i));
+        kept = w .kept;
       }
 
 -- the end: nothing is left
-pub writing-end : (s lent rows : List ℕ) (p : Scope) (at i : ℕ) → Writing s lent rows p at i → length s ≤ at → rows ≡ wordsAfter (said (rowsFrom 0) (walkOfAny s)) lent
-writing-end s lent rows p at i w h =
+pub writing-end : (s spans lent rows : List ℕ) (p : Scope) (at i : ℕ) → Writing s spans lent rows p at i → length s ≤ at → rows ≡ wordsAfter (said (rowsFrom 0) (walkOfAny s)) lent
+writing-end s spans lent rows p at i w h =
     let e : at ≡ length s = omega (arith, w .inside) in
     let none : w .rest ≡ [] = ended (final (w .state)) (w .rest) (sym (ap (left s (w .state)) e ∙ left-end s (w .state)) ∙ w .rest-is) in
     let k : i * 3 ≡ 3 * length (rowsFrom 0 (w .all)) = let c = ap length none in let l = rows-length 0 (w .all) in omega (arith, w .count) in

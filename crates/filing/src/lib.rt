@@ -9,15 +9,15 @@ ghost use mathlib.Core.Path.{_≡_};
 ghost use mathlib.Core.List.{_∷_, _++_};
 ghost use Prim.Native.Nat.{_+_, _*_, _≤_, _<_};
 ghost use lib.ListN;
-ghost use lib.ListN.{length, take, drop};
+ghost use lib.ListN.{length, getD, set, take, drop};
 ghost use Rattle.answers.specs.Answers.{done};
-ghost use Rattle.answers.specs.Results.{mapGood};
 ghost use Rattle.startcode.specs.Kinds.{kindOf};
+ghost use Rattle.startcode.specs.Prefix.{nextPrefix};
 ghost use Rattle.grammar.specs.Rows.{rowsFrom};
 ghost use Rattle.grammar.specs.Reader.{final, stopAt, said, walkOfAny, walk, filingInto};
 ghost use Rattle.filing.specs.Filing.{filingSays, checkedSays, wordsAfter, FiledByReading};
 ghost use Rattle.filing.specs.Reader.{filed};
-ghost use Rattle.filing.specs.Inside.{checkedGives, scopeAfter, Writable};
+ghost use Rattle.filing.specs.Inside.{checkedGives, shortSpan, Spans, KeptBy, Passed, scopeAfter, Writable, Filed};
 
 // A refusal and its offset in the stream.
 pub struct Refusal {
@@ -65,9 +65,25 @@ fn refused_at(reason: Reason, offset: usize) -> Checked
     })
 }
 
-// Each unit is checked, and the units are counted; no lent word is touched.
-fn check_units(stream: &[u8]) -> Checked
-    ensures { λ r. ⌜ checkedGives r ≡ mapGood length (walkOfAny (now (stream .entry))) ⌝ }
+// A span in 16 bits: 0 where it does not fit.
+fn short_span(span: usize) -> u16
+    ensures { λ r. ⌜ r ≡ shortSpan span ⌝ }
+{
+    if span < 65536 { span as u16 } else { 0 }
+}
+
+// A unit's span is kept, where there is a word for it.
+fn keep_span(spans: &mut [u16], i: usize, span: usize)
+    ensures { λ r. ⌜ now (spans .exit) ≡ set (now (spans .entry)) i (shortSpan span) ⌝ }
+{
+    if i < spans.len() {
+        spans[i] = short_span(span);
+    }
+}
+
+// Each unit is checked, the units are counted, and the spans of the first are kept; no word for rows is touched.
+fn check_units(stream: &[u8], spans: &mut [u16]) -> Checked
+    ensures { λ r. ⌜ Passed (now (stream .entry)) (now (spans .exit)) r ⌝ }
 {
     if !startcode::prefix_at(stream, 0) {
         return refused_at(Reason::NoCode, 0);
@@ -78,6 +94,7 @@ fn check_units(stream: &[u8]) -> Checked
     while at < stream.len() {
         match units::unit_at(stream, state, at) {
             UnitAnswer::Next(next, end, _) => {
+                keep_span(spans, units, end - at);
                 state = next;
                 at = end;
                 units += 1;
@@ -96,9 +113,9 @@ fn check_units(stream: &[u8]) -> Checked
     refused_at(Reason::Unended, at)
 }
 
-// A stream is checked and no row is written: filing's answer, FULL aside.
-pub fn check(stream: &[u8]) -> Checked
-    ensures { λ r. ⌜ checkedSays r ≡ said length (walk (now (stream .entry))) ⌝ }
+// The limit, and then the first pass.
+fn check_keeping(stream: &[u8], spans: &mut [u16]) -> Checked
+    ensures { λ r. ⌜ (checkedSays r ≡ said length (walk (now (stream .entry)))) × KeptBy (now (stream .entry)) (now (spans .exit)) r ⌝ }
 {
     if 16777216 < stream.len() {
         return Checked::Refused(Refusal {
@@ -106,7 +123,15 @@ pub fn check(stream: &[u8]) -> Checked
             offset: 0,
         });
     }
-    check_units(stream)
+    check_units(stream, spans)
+}
+
+// A stream is checked and no row is written: filing's answer, FULL aside.
+pub fn check(stream: &[u8]) -> Checked
+    ensures { λ r. ⌜ checkedSays r ≡ said length (walk (now (stream .entry))) ⌝ }
+{
+    let mut spans = [1u16; 1];
+    check_keeping(stream, &mut spans)
 }
 
 // ── the second pass ──
@@ -147,10 +172,38 @@ fn scope_after(scope: Scope, code: u8) -> Scope
     }
 }
 
+// The span that is kept of unit i, or 0.
+fn span_of(spans: &[u16], i: usize) -> usize
+    ensures { λ r. ⌜ (r ≡ getD (now (spans .entry)) i 0) × (r < 65536) ⌝ }
+{
+    if i < spans.len() {
+        return wide(spans[i]);
+    }
+    0
+}
+
+fn wide(x: u16) -> usize
+    ensures { λ r. ⌜ (r ≡ x) × (r < 65536) ⌝ }
+{
+    x as usize
+}
+
+// The end of unit i at an offset: by the span that the first pass kept, or searched for again.
+fn end_of(stream: &[u8], spans: &[u16], i: usize, at: usize) -> usize
+    requires { ⌜ (at + 3 < 4294967296) × Spans (getD (now spans) i 0) at (nextPrefix (now stream) (at + 3)) ⌝ }
+    ensures { λ r. ⌜ r ≡ nextPrefix (now (stream .entry)) (at + 3) ⌝ }
+{
+    let span = span_of(spans, i);
+    if span == 0 {
+        return startcode::next_prefix(stream, at + 3);
+    }
+    at + span
+}
+
 // The rows of a stream that is good, into words that suffice. Nothing is judged again: a row takes the unit's code, its end and its
 // scope.
-fn write_rows(stream: &[u8], rows: &mut [u32])
-    requires { ⌜ Writable (now stream) (now rows) ⌝ }
+fn write_rows(stream: &[u8], spans: &[u16], rows: &mut [u32])
+    requires { ⌜ Writable (now stream) (now spans) (now rows) ⌝ }
     ensures { λ r. ⌜ now (rows .exit) ≡ wordsAfter (said (rowsFrom 0) (walkOfAny (now (stream .entry)))) (now (rows .entry)) ⌝ }
 {
     let mut scope = Scope::Picture;
@@ -158,7 +211,7 @@ fn write_rows(stream: &[u8], rows: &mut [u32])
     let mut i: usize = 0;
     while at < stream.len() {
         let code = stream[at + 3];
-        let end = startcode::next_prefix(stream, at + 3);
+        let end = end_of(stream, spans, i, at);
         let from = at + 4;
         let length = units::row_length(scope, code, &stream[from..end]);
         put_row(rows, i, code, at, length);
@@ -170,13 +223,11 @@ fn write_rows(stream: &[u8], rows: &mut [u32])
 
 // ── filing ──
 
-// A stream is filed: its rows are written to the lent words, or it is refused and the words stay.
-pub fn file(stream: &[u8], rows: &mut [u32]) -> FilingAnswer
-    ensures answer { λ r. ⌜ filingSays r ≡ filed (now (stream .entry)) (ListN.length (now (rows .entry))) ⌝ }
-    ensures words { λ r. ⌜ now (rows .exit) ≡ wordsAfter (filingInto (now (stream .entry)) (ListN.length (now (rows .entry)))) (now (rows .entry)) ⌝ }
-    ensures reading { λ r. ⌜ FiledByReading (now (stream .entry)) (now (rows .entry)) (now (rows .exit)) r ⌝ }
+// A stream is filed, with words for the spans of its first units.
+fn file_keeping(stream: &[u8], spans: &mut [u16], rows: &mut [u32]) -> FilingAnswer
+    ensures { λ r. ⌜ Filed (now (stream .entry)) (now (rows .entry)) (now (rows .exit)) r ⌝ }
 {
-    match check(stream) {
+    match check_keeping(stream, spans) {
         Checked::Good(units) => {
             if rows.len() / 3 < units {
                 return FilingAnswer::Refused(Refusal {
@@ -184,9 +235,24 @@ pub fn file(stream: &[u8], rows: &mut [u32]) -> FilingAnswer
                     offset: 0,
                 });
             }
-            write_rows(stream, rows);
+            write_rows(stream, spans, rows);
             FilingAnswer::Filed(Totals { units: units })
         }
         Checked::Refused(refusal) => FilingAnswer::Refused(refusal),
     }
+}
+
+// A stream is filed: its rows are written to the lent words, or it is refused and the words stay. What a word for spans begins with is
+// never read; it is no 0 since the compiler would have memset write zeros, which the library has not.
+pub fn file(stream: &[u8], rows: &mut [u32]) -> FilingAnswer
+    ensures answer { λ r. ⌜ filingSays r ≡ filed (now (stream .entry)) (ListN.length (now (rows .entry))) ⌝ }
+    ensures words { λ r. ⌜ now (rows .exit) ≡ wordsAfter (filingInto (now (stream .entry)) (ListN.length (now (rows .entry)))) (now (rows .entry)) ⌝ }
+    ensures reading { λ r. ⌜ FiledByReading (now (stream .entry)) (now (rows .entry)) (now (rows .exit)) r ⌝ }
+{
+    if stream.len() < 16384 {
+        let mut few = [1u16; 256];
+        return file_keeping(stream, &mut few, rows);
+    }
+    let mut spans = [1u16; 15360];
+    file_keeping(stream, &mut spans, rows)
 }

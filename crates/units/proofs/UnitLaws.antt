@@ -59,6 +59,7 @@ pub record Advanced (s : List ℕ) (q : State) (at : ℕ) (next : State) (end le
   pub more : left s q at ≡ addUnit unit (left s next end)
   pub code : unit .unit .code ≡ getD s (at + 3) 0
   pub bytes-are : at + ListN.length (bytes (unit .unit)) ≡ end
+  pub end-is : end ≡ nextPrefix s (at + 3)
   pub length-is : rowLength unit ≡ length
   pub forward : at + 4 ≤ end
   pub within : end ≤ ListN.length s
@@ -108,6 +109,7 @@ module _ (s : List ℕ) (q : State) (at : ℕ) (b : begins (drop at s) ≡ true)
         more = unit-left ∙ ap goes e;
         code = refl;
         bytes-are = unit-ends s at b h b′;
+        end-is = refl;
         length-is = refl;
         forward = f .0;
         within = f .1;

@@ -8,49 +8,52 @@ use lib.ListN.{length}
 use Rattle.grammar.specs.Rows.{placed, rowLength}
 use Rattle.grammar.proofs.WalkLaws.{unitBetween}
 use Rattle.units.proofs.UnitLaws.{Advanced}
-use Rattle.filing.proofs.PassLaws.{Writing, UnitHere, unit-here, writing-start, writing-room, writing-next, writing-end}
+use Rattle.filing.proofs.PassLaws.{Writing, UnitHere, unit-here, writing-start, writing-room, writing-kept, writing-next, writing-end}
 use Rattle.filing.proofs.write_rows.Statement.{statement}
 use Rattle.filing.proofs.write_rows.Tie as tie
 
 abbrev Inv-loop : tie.InvT-loop
-Inv-loop stream rows₀ scope₀ at₀ i₀ rows scope at i = Writing stream rows₀ rows scope at i
+Inv-loop stream spans rows₀ scope₀ at₀ i₀ rows scope at i = Writing stream spans rows₀ rows scope at i
 
 abbrev μ-loop : tie.MeasureT-loop
-μ-loop stream rows₀ scope₀ at₀ i₀ rows scope at i = length stream - at
+μ-loop stream spans rows₀ scope₀ at₀ i₀ rows scope at i = length stream - at
 
 abbrev stream-of : tie.At-loop Inv-loop μ-loop → List ℕ
-stream-of l = l .before .before .before .args .stream .now
+stream-of l = l .before .before .before .before .args .stream .now
+
+abbrev spans-of : tie.At-loop Inv-loop μ-loop → List ℕ
+spans-of l = l .before .before .before .before .args .spans .now
 
 abbrev lent-of : tie.At-loop Inv-loop μ-loop → List ℕ
-lent-of l = l .before .before .before .args .rows .now
+lent-of l = l .before .before .before .before .args .rows .now
 
 -- the unit that stands here
 unit : (c : tie.In-loop Inv-loop μ-loop) → let l = c .before in UnitHere (stream-of l) (l .loop .scope) (l .loop .inv .state) (l .loop .at)
-unit c = let l = c .before in unit-here (stream-of l) (lent-of l) (l .loop .rows) (l .loop .scope) (l .loop .at) (l .loop .i) (l .loop .inv) (c .loop-test .taken)
+unit c = let l = c .before in unit-here (stream-of l) (spans-of l) (lent-of l) (l .loop .rows) (l .loop .scope) (l .loop .at) (l .loop .i) (l .loop .inv) (c .loop-test .taken)
 
 -- up to the end that was found
-found : (n : tie.After-next-prefix Inv-loop μ-loop) → let c = n .before .before in let l = c .before in let end = n .next-prefix .result in
+found : (n : tie.After-end-of Inv-loop μ-loop) → let c = n .before .before in let l = c .before in let end = n .end-of .result in
     Advanced (stream-of l) (l .loop .inv .state) (l .loop .at) (unit c .next) end (rowLength (placed (l .loop .scope) (unitBetween (stream-of l) (l .loop .at) end)))
 found n =
     let c = n .before .before in
     let l = c .before in
     subst (λ (end : ℕ). Advanced (stream-of l) (l .loop .inv .state) (l .loop .at) (unit c .next) end (rowLength (placed (l .loop .scope) (unitBetween (stream-of l) (l .loop .at) end))))
-    (sym (n .next-prefix .ensures)) (unit c .advanced)
+    (sym (n .end-of .ensures)) (unit c .advanced)
 
 -- with the length of its row
 advanced : (r : tie.After-row-length Inv-loop μ-loop) → let n = r .before .before in let c = n .before .before in let l = c .before in
-    Advanced (stream-of l) (l .loop .inv .state) (l .loop .at) (unit c .next) (n .next-prefix .result) (r .row-length .result)
+    Advanced (stream-of l) (l .loop .inv .state) (l .loop .at) (unit c .next) (n .end-of .result) (r .row-length .result)
 advanced r =
     let n = r .before .before in
     let c = n .before .before in
     let l = c .before in
-    subst (Advanced (stream-of l) (l .loop .inv .state) (l .loop .at) (unit c .next) (n .next-prefix .result)) (sym (r .row-length .ensures)) (found n)
+    subst (Advanced (stream-of l) (l .loop .inv .state) (l .loop .at) (unit c .next) (n .end-of .result)) (sym (r .row-length .ensures)) (found n)
 
 room : (r : tie.After-row-length Inv-loop μ-loop) → let l = r .before .before .before .before .before in l .loop .i * 3 + 3 ≤ length (l .loop .rows)
-room r = let l = r .before .before .before .before .before in writing-room (stream-of l) (lent-of l) (l .loop .rows) (l .loop .scope) (l .loop .at) (l .loop .i) _ _ _ (l .loop .inv) (advanced r)
+room r = let l = r .before .before .before .before .before in writing-room (stream-of l) (spans-of l) (lent-of l) (l .loop .rows) (l .loop .scope) (l .loop .at) (l .loop .i) _ _ _ (l .loop .inv) (advanced r)
 
 loop-holds : tie.Need-loop-holds Inv-loop μ-loop
-loop-holds c = writing-start _ _ (c .before .before .pre)
+loop-holds c = writing-start _ _ _ (c .before .before .before .pre)
 
 add-code : tie.Need-add-code Inv-loop μ-loop
 add-code c = omega (arith, unit c .advanced .forward, unit c .advanced .within)
@@ -58,11 +61,12 @@ add-code c = omega (arith, unit c .advanced .forward, unit c .advanced .within)
 shared-slice-read-code : tie.Need-shared-slice-read-code Inv-loop μ-loop
 shared-slice-read-code c = omega (arith, unit (c .before) .advanced .forward, unit (c .before) .advanced .within)
 
-add-next-prefix : tie.Need-add-next-prefix Inv-loop μ-loop
-add-next-prefix c = omega (arith, unit (c .before) .advanced .forward, unit (c .before) .advanced .within)
-
-next-prefix-requires : tie.Need-next-prefix-requires Inv-loop μ-loop
-next-prefix-requires c κs = search needs
+end-of-requires : tie.Need-end-of-requires Inv-loop μ-loop
+end-of-requires c κs =
+    let u = c .before in
+    let l = u .before in
+    let a = unit u .advanced in
+    (omega (arith, a .forward, a .within, l .loop .inv .short), writing-kept (stream-of l) (spans-of l) (lent-of l) (l .loop .rows) (l .loop .scope) (l .loop .at) (l .loop .i) _ _ _ (l .loop .inv) a)
 
 add-from : tie.Need-add-from Inv-loop μ-loop
 add-from c = omega (arith, found c .forward, found c .within)
@@ -97,13 +101,13 @@ loop-again c =
     let r = p .before .before in
     let u = r .before .before .before .before in
     let l = u .before in
-    writing-next (stream-of l) (lent-of l) (l .loop .rows) (l .loop .scope) (l .loop .at) (l .loop .i) _ _ _ (l .loop .inv) (advanced r) _ _ (p .put-row .ensures) (c .scope-after .ensures ∙ unit u .after)
+    writing-next (stream-of l) (spans-of l) (lent-of l) (l .loop .rows) (l .loop .scope) (l .loop .at) (l .loop .i) _ _ _ (l .loop .inv) (advanced r) _ _ (p .put-row .ensures) (c .scope-after .ensures ∙ unit u .after)
 
 same-length : tie.Need-same-length Inv-loop μ-loop
 same-length c = c .before .loop .inv .same
 
 returns : tie.Need-returns Inv-loop μ-loop
-returns c = let l = c .before in writing-end (stream-of l) (lent-of l) (l .loop .rows) (l .loop .scope) (l .loop .at) (l .loop .i) (l .loop .inv) (c .loop-test .left)
+returns c = let l = c .before in writing-end (stream-of l) (spans-of l) (lent-of l) (l .loop .rows) (l .loop .scope) (l .loop .at) (l .loop .i) (l .loop .inv) (c .loop-test .left)
 
 pub write-rows-spec : {M : Type 1} → statement M
 write-rows-spec =
@@ -114,8 +118,7 @@ write-rows-spec =
     loop-holds
     add-code
     shared-slice-read-code
-    add-next-prefix
-    next-prefix-requires
+    end-of-requires
     add-from
     sub-row-length
     part-row-length-start
