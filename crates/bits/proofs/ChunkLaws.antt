@@ -3,11 +3,14 @@ use Prim.Native.Nat.{ℕ, zero, suc, _+_, _-_, _*_, _/_, _%_, _^_, _≤_, _<_}
 use mathlib.Core.Path.{_≡_, refl, sym, ap, _∙_}
 use mathlib.Core.List.{List, [], _∷_, _++_}
 use native.Mathlib.Omega.{arith}
+use native.Mathlib.Nat.{mod-lt}
 use lib.ListN.{length, getD, take, drop}
-use lib.Pow.{pow-add}
+use lib.Pow.{pow-pos, pow-add}
 use lib.Seq.{take-add, take-at, take-take, drop-at, drop-append-add, drop-drop}
-use Rattle.bits.specs.Bits.{bitsIn, bitsOf, payload}
+use Rattle.answers.specs.Results.{good}
+use Rattle.bits.specs.Bits.{bitsIn, bitsOf, payload, readAt}
 use Rattle.bits.proofs.BitLaws.{length-in, in-append, in-low}
+use Rattle.bits.proofs.ReadLaws.{value-exactly}
 use Rattle.bits.proofs.ListLaws.{drop-take}
 
 -- the bits of the byte at q head what is left there
@@ -64,3 +67,15 @@ pub within-count : (s : List ℕ) (count place width : ℕ) → place + width �
 within-count s count place width h =
     let e : count ≡ place + (count - place) = omega arith in
     rw e (ap (take width) (drop-take place (count - place) (bitsOf s)) ∙ take-take width (count - place) (drop place (bitsOf s)) (omega arith))
+
+-- the bytes from the one that holds the first bit to the one that holds the last, and the bits before and after cut off
+pub bytes-read : (s : List ℕ) (count place last width value : ℕ) → last + 1 ≡ place + width → last < count →
+    take ((last / 8 + 1 - place / 8) * 8) (drop (place / 8 * 8) (bitsOf s)) ≡ bitsIn ((last / 8 + 1 - place / 8) * 8) value →
+    readAt (payload s count) place width ≡ good (value / 2 ^ (7 - last % 8) % 2 ^ width)
+bytes-read s count place last width value ends inside e =
+    let after = 7 - last % 8 in
+    let q : place / 8 * 8 + place % 8 ≡ place = omega arith in
+    let n : (last / 8 + 1 - place / 8) * 8 ≡ place % 8 + (width + after) = omega arith in
+    let d : drop (place % 8) (drop (place / 8 * 8) (bitsOf s)) ≡ drop place (bitsOf s) = drop-drop (place % 8) (place / 8 * 8) (bitsOf s) ∙ rw q in
+    let bits = cut-bits (drop (place / 8 * 8) (bitsOf s)) (place % 8) width after value (rw n at e) in
+    value-exactly s count place width _ .1 (mod-lt _ (pow-pos width), within-count s count place width (omega arith) ∙ ap (take width) (sym d) ∙ bits)

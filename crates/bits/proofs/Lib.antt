@@ -5,4 +5,5 @@ pub mod ReadLaws
 pub mod LimitLaws
 pub mod PackingLaws
 pub mod ChunkLaws
+pub mod WordLaws
 pub mod Main

@@ -1,3 +1,4 @@
 -- What document 01 says of bits, for every crate above.
 pub mod Lists
 pub mod Bits
+pub mod Reader

@@ -3,6 +3,7 @@ ghost use mathlib.Core.Path.{_≡_};
 ghost use Prim.Native.Nat.{_+_, _-_, _*_, _/_, _%_, _^_, _≤_, _<_};
 ghost use lib.ListN.{length, take, drop};
 ghost use Rattle.bits.specs.Bits.{bitsIn, bitsOf, payload, bitAt, readWithin};
+ghost use Rattle.bits.specs.Reader.{wordAt};
 
 // The bit at a place, or none.
 pub enum Bit {
@@ -16,6 +17,12 @@ pub enum Read {
     Value(u32),
     Missing(u32),
     TooWide,
+}
+
+// The bits from a place on that are left of four bytes: the number that they write, and how many they are, 25 to 32.
+pub enum Word {
+    Bits(u32, u32),
+    Few,
 }
 
 // A byte as a number of 32 bits.
@@ -77,6 +84,18 @@ pub fn read_bits(bytes: &[u8], count: usize, place: usize, width: u32) -> Read
     }
     let last = place + (width - 1) as usize;
     Read::Value(cut(number(bytes, place / 8, last / 8 + 1), 7 - last % 8, width))
+}
+
+// The bits from a place on, as far as the four bytes go that it is in. Few where not so many are left; then bits can still be read.
+pub fn read_word(bytes: &[u8], count: usize, place: usize) -> Word
+    ensures { λ r. ⌜ r ≡ wordAt (payload (now (bytes .entry)) count) place ⌝ }
+{
+    if bits_left(bytes, count, place) < 32 {
+        return Word::Few;
+    }
+    let at = place / 8;
+    let width = 32 - (place % 8) as u32;
+    Word::Bits(cut(number(bytes, at, at + 4), 0, width), width)
 }
 
 // The number that some bytes write, from one on and before an end: at most five.

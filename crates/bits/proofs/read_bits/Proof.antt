@@ -12,8 +12,8 @@ use Rattle.answers.specs.Results.{good}
 use Rattle.bits.specs.Bits.{bitsIn, bitsOf, payload, readOn, readAt, readSays}
 use Rattle.bits.specs.declared.Read.the-variants.{Value}
 use Rattle.bits.proofs.BitLaws.{length-payload, within-wide, within-is}
-use Rattle.bits.proofs.ReadLaws.{value-exactly, missing-exactly}
-use Rattle.bits.proofs.ChunkLaws.{cut-bits, within-count}
+use Rattle.bits.proofs.ReadLaws.{missing-exactly}
+use Rattle.bits.proofs.ChunkLaws.{bytes-read}
 use Rattle.bits.proofs.read_bits.Statement.{statement}
 use Rattle.bits.proofs.read_bits.Tie as tie
 
@@ -77,18 +77,6 @@ sub-cut c = search needs
 cut-requires : tie.Need-cut-requires
 cut-requires c κs = search needs
 
--- the bytes from the one that holds the first bit to the one that holds the last, and the bits before and after cut off
-there : (s : List ℕ) (count place last width value : ℕ) → last + 1 ≡ place + width → last < count →
-    take ((last / 8 + 1 - place / 8) * 8) (drop (place / 8 * 8) (bitsOf s)) ≡ bitsIn ((last / 8 + 1 - place / 8) * 8) value →
-    readAt (payload s count) place width ≡ good (value / 2 ^ (7 - last % 8) % 2 ^ width)
-there s count place last width value ends inside e =
-    let after = 7 - last % 8 in
-    let q : place / 8 * 8 + place % 8 ≡ place = omega arith in
-    let n : (last / 8 + 1 - place / 8) * 8 ≡ place % 8 + (width + after) = omega arith in
-    let d : drop (place % 8) (drop (place / 8 * 8) (bitsOf s)) ≡ drop place (bitsOf s) = drop-drop (place % 8) (place / 8 * 8) (bitsOf s) ∙ rw q in
-    let bits = cut-bits (drop (place / 8 * 8) (bitsOf s)) (place % 8) width after value (rw n at e) in
-    value-exactly s count place width _ .1 (mod-lt _ (pow-pos width), within-count s count place width (omega arith) ∙ ap (take width) (sym d) ∙ bits)
-
 returns-4 : tie.Need-returns-4
 returns-4 c =
     let n = c .before in
@@ -96,7 +84,7 @@ returns-4 c =
     let a = entry e .args in
     let h = within e .0 in
     let some = e .if3 .left in
-    let r = there (a .bytes .now) (a .count) (a .place) (a .place + (a .width - 1)) (a .width) (n .number .result) (omega arith) (omega arith) (n .number .ensures) in
+    let r = bytes-read (a .bytes .now) (a .count) (a .place) (a .place + (a .width - 1)) (a .width) (n .number .result) (omega arith) (omega arith) (n .number .ensures) in
     sym (within-is _ (a .place) (a .width) (fits e) ∙ ap readSays r ∙ ap Value (sym (c .cut .ensures)))
 
 pub read-bits-spec : {M : Type 1} → statement M
