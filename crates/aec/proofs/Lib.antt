@@ -1,6 +1,7 @@
 pub mod AnswerLaws
 pub mod RangeLaws
 pub mod ShiftLaws
+pub mod QuickLaws
 pub mod PairLaws
 pub mod StepLaws
 pub mod StartLaws

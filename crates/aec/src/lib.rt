@@ -3,6 +3,7 @@ ghost use mathlib.Core.Path.{_≡_};
 ghost use mathlib.Core.Bool.{true};
 ghost use Prim.Native.Nat.{_*_, _/_, _≤_, _<_};
 ghost use lib.ListN.{length, drop};
+ghost use Rattle.answers.specs.Answers.{andThen};
 ghost use Rattle.answers.specs.Limits.{longestPayload, mostBits};
 ghost use Rattle.bits.specs.Bits.{payload};
 ghost use Rattle.contexts.specs.Contexts.{goodContext};
@@ -12,9 +13,11 @@ ghost use Rattle.aec.specs.Bins.{splitOf, missesOf, remainderOf, unpredi
 ghost use Rattle.aec.specs.Bins.{pairOf, plainOf, bypassOf, stuffingOf, decodeOf, decodePairOf};
 ghost use Rattle.aec.specs.Says.{startedSays, steppedSays, decodedSays, decodedPairSays};
 ghost use Rattle.aec.specs.Inside.{checkedSays, doubledSays, shiftedSays, settledSays, SplitRanges};
+ghost use Rattle.aec.specs.Inside.{triedSays, headOf, updating, updatingPair};
 use bits::Bit;
 use bits::Read;
 use contexts::Context;
+use renorm::Renormalised;
 
 // Document 01's rS, rT, valueS and valueT, and the place of the next bit.
 #[repr(C)]
@@ -85,6 +88,12 @@ enum Shifted {
 enum Settled {
     Done(State),
     Refused(Refusal),
+}
+
+// What the quick way answers: a bin and the next state, or that it does not answer.
+enum Tried {
+    Done(u32, State),
+    Slow,
 }
 
 // s, t and R of a bin.
@@ -297,7 +306,39 @@ fn remainder(bytes: &[u8], count: usize, x: State, y: Split) -> Doubled
     }
 }
 
-// The state after a bin that was not predicted.
+// valueT less t, as remainder has it, but without the bit that it borrows.
+fn head_of(x: State, y: Split) -> u16
+    requires { ⌜ (x .vt ≤ 255) × (y .t ≤ 255) × (missesOf x y ≡ true) ⌝ }
+    ensures { λ r. ⌜ r ≡ headOf x y ⌝ }
+{
+    if y.s == x.vs {
+        return (x.vt - y.t) as u16;
+    }
+    (256 + x.vt * 2 - y.t) as u16
+}
+
+// A bin that was not predicted, by the bits of four bytes at once, where these hold all that it takes.
+fn quick(bytes: &[u8], count: usize, x: State, p: u32, y: Split) -> Tried
+    requires { ⌜ (length (now bytes) ≤ longestPayload) × (goodState (length (payload (now bytes) count)) x ≡ true) × (p ≤ 1) × (missesOf x y ≡ true) × SplitRanges y ⌝ }
+    ensures { λ r. ⌜ triedSays r (binOf (payload (now (bytes .entry)) count) x p y) ⌝ }
+{
+    let head = head_of(x, y);
+    match renorm::renormalise(bytes, count, x.place, head, y.s != x.vs, y.range) {
+        Renormalised::Done(z) => Tried::Done(
+            1 - p,
+            State {
+                rs: 0,
+                rt: z.rt,
+                vs: z.vs,
+                vt: z.vt,
+                place: x.place + z.taken as usize,
+            },
+        ),
+        Renormalised::Short => Tried::Slow,
+    }
+}
+
+// The state after a bin that was not predicted, by single bits.
 fn unpredicted(bytes: &[u8], count: usize, x: State, y: Split) -> Settled
     requires { ⌜ (length (now bytes) ≤ longestPayload) × (goodState (length (payload (now bytes) count)) x ≡ true) × (missesOf x y ≡ true) × SplitRanges y ⌝ }
     ensures { λ r. ⌜ settledSays r ≡ unpredictedOf (payload (now (bytes .entry)) count) x y ⌝ }
@@ -311,11 +352,12 @@ fn unpredicted(bytes: &[u8], count: usize, x: State, y: Split) -> Settled
     }
 }
 
-// One bin, of a state within its ranges. Its callers split the range: that leaves it small enough to be inlined into each.
-fn step(bytes: &[u8], count: usize, x: State, p: u32, y: Split) -> Stepped
-    requires { ⌜ (length (now bytes) ≤ longestPayload) × (goodState (length (payload (now bytes) count)) x ≡ true) × (p ≤ 1) × SplitRanges y ⌝ }
-    ensures { λ r. ⌜ steppedSays r ≡ binOf (payload (now (bytes .entry)) count) x p y ⌝ }
+// One bin by single bits, of a state within its ranges. It splits the range itself: so it is too large to be inlined.
+fn slow(bytes: &[u8], count: usize, x: State, p: u32, lg: u32) -> Stepped
+    requires { ⌜ (length (now bytes) ≤ longestPayload) × (goodState (length (payload (now bytes) count)) x ≡ true) × (p ≤ 1) × (4 ≤ lg) × (lg ≤ 1023) ⌝ }
+    ensures { λ r. ⌜ steppedSays r ≡ binOf (payload (now (bytes .entry)) count) x p (splitOf x (lg / 4)) ⌝ }
 {
+    let y = split_range(x, lg);
     if misses(x, y) {
         return match unpredicted(bytes, count, x, y) {
             Settled::Done(z) => Stepped::Done(1 - p, z),
@@ -334,13 +376,49 @@ fn step(bytes: &[u8], count: usize, x: State, p: u32, y: Split) -> Stepped
     )
 }
 
+// One bin, of a state within its ranges, where no more than four bytes are needed. Its callers split the range and call the slow way
+// themselves, on a copy of the state, which then can stay in registers: that leaves it small enough to be inlined into each.
+fn step(bytes: &[u8], count: usize, x: State, p: u32, y: Split) -> Tried
+    requires { ⌜ (length (now bytes) ≤ longestPayload) × (goodState (length (payload (now bytes) count)) x ≡ true) × (p ≤ 1) × SplitRanges y ⌝ }
+    ensures { λ r. ⌜ triedSays r (binOf (payload (now (bytes .entry)) count) x p y) ⌝ }
+{
+    if misses(x, y) {
+        return quick(bytes, count, x, p, y);
+    }
+    Tried::Done(
+        p,
+        State {
+            rs: y.s,
+            rt: y.t,
+            vs: x.vs,
+            vt: x.vt,
+            place: x.place,
+        },
+    )
+}
+
 // A bin of no context, predicted 0.
 fn plain(bytes: &[u8], count: usize, x: State, lg: u32) -> Stepped
     requires { ⌜ (4 ≤ lg) × (lg ≤ 1023) ⌝ }
     ensures { λ r. ⌜ steppedSays r ≡ plainOf (now (bytes .entry)) count x lg ⌝ }
 {
     match guard(bytes, count, x, true) {
-        Checked::Fine => step(bytes, count, x, 0, split_range(x, lg)),
+        Checked::Fine => match step(bytes, count, x, 0, split_range(x, lg)) {
+            Tried::Done(bin, next) => Stepped::Done(bin, next),
+            Tried::Slow => slow(
+                bytes,
+                count,
+                State {
+                    rs: x.rs,
+                    rt: x.rt,
+                    vs: x.vs,
+                    vt: x.vt,
+                    place: x.place,
+                },
+                0,
+                lg,
+            ),
+        },
         Checked::Refused(r) => Stepped::Refused(r),
     }
 }
@@ -352,11 +430,14 @@ pub fn bypass(bytes: &[u8], count: usize, x: State) -> Stepped
     plain(bytes, count, x, 1023)
 }
 
-// The stuffing bin.
+// The stuffing bin. It stands where few bits are left.
 pub fn stuffing(bytes: &[u8], count: usize, x: State) -> Stepped
     ensures { λ r. ⌜ steppedSays r ≡ stuffingOf (now (bytes .entry)) count x ⌝ }
 {
-    plain(bytes, count, x, 4)
+    match guard(bytes, count, x, true) {
+        Checked::Fine => slow(bytes, count, x, 0, 4),
+        Checked::Refused(r) => Stepped::Refused(r),
+    }
 }
 
 // The prediction of two contexts: on a tie the second's.
@@ -381,16 +462,60 @@ fn pair(a: Context, b: Context) -> Prediction
     Prediction { p: b.mps, lg }
 }
 
+// A step and the context's update.
+fn renewed(r: Stepped, c: Context) -> Decoded
+    requires { ⌜ goodContext c ≡ true ⌝ }
+    ensures { λ d. ⌜ decodedSays d ≡ andThen (steppedSays r) (updating c) ⌝ }
+{
+    match r {
+        Stepped::Done(bin, next) => Decoded::Done(bin, next, contexts::updated(c, bin)),
+        Stepped::Refused(r) => Decoded::Refused(r),
+    }
+}
+
 // A bin of one context.
 pub fn decode(bytes: &[u8], count: usize, x: State, c: Context) -> Decoded
     ensures { λ r. ⌜ decodedSays r ≡ decodeOf (now (bytes .entry)) count x c ⌝ }
 {
     match guard(bytes, count, x, contexts::good_context(c)) {
         Checked::Fine => match step(bytes, count, x, c.mps, split_range(x, c.lg)) {
-            Stepped::Done(bin, next) => Decoded::Done(bin, next, contexts::updated(c, bin)),
-            Stepped::Refused(r) => Decoded::Refused(r),
+            Tried::Done(bin, next) => Decoded::Done(bin, next, contexts::updated(c, bin)),
+            Tried::Slow => renewed(
+                slow(
+                    bytes,
+                    count,
+                    State {
+                        rs: x.rs,
+                        rt: x.rt,
+                        vs: x.vs,
+                        vt: x.vt,
+                        place: x.place,
+                    },
+                    c.mps,
+                    c.lg,
+                ),
+                c,
+            ),
         },
         Checked::Refused(r) => Decoded::Refused(r),
+    }
+}
+
+// A step and both contexts' updates.
+fn renewed_pair(r: Stepped, a: Context, b: Context) -> DecodedPair
+    requires { ⌜ (goodContext a ≡ true) × (goodContext b ≡ true) ⌝ }
+    ensures { λ d. ⌜ decodedPairSays d ≡ andThen (steppedSays r) (updatingPair a b) ⌝ }
+{
+    match r {
+        Stepped::Done(bin, next) => {
+            DecodedPair::Done(
+                bin,
+                next,
+                contexts::updated(a, bin),
+                contexts::updated(b, bin),
+            )
+        }
+        Stepped::Refused(r) => DecodedPair::Refused(r),
     }
 }
 
@@ -402,13 +527,29 @@ pub fn decode_pair(bytes: &[u8], count: usize, x: State, a: Context, b: Context)
         Checked::Fine => {
             let g = pair(a, b);
             match step(bytes, count, x, g.p, split_range(x, g.lg)) {
-                Stepped::Done(bin, next) => DecodedPair::Done(
+                Tried::Done(bin, next) => DecodedPair::Done(
                     bin,
                     next,
                     contexts::updated(a, bin),
                     contexts::updated(b, bin),
                 ),
-                Stepped::Refused(r) => DecodedPair::Refused(r),
+                Tried::Slow => renewed_pair(
+                    slow(
+                        bytes,
+                        count,
+                        State {
+                            rs: x.rs,
+                            rt: x.rt,
+                            vs: x.vs,
+                            vt: x.vt,
+                            place: x.place,
+                        },
+                        g.p,
+                        g.lg,
+                    ),
+                    a,
+                    b,
+                ),
             }
         }
         Checked::Refused(r) => DecodedPair::Refused(r),

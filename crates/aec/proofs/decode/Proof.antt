@@ -1,16 +1,15 @@
 -- A step by the context's own prediction, and its update, once nothing is refused.
 use Prim.Native.Nat.{ℕ}
-use mathlib.Core.Path.{_≡_, sym, ap, _∙_}
+use mathlib.Core.Path.{_≡_, refl, sym, ap, subst, _∙_}
 use native.Mathlib.Omega.{arith}
-use Rattle.answers.specs.Answers.{Outcome, done}
+use Rattle.answers.specs.Answers.{Outcome, done, andThen}
 use Rattle.bits.specs.Bits.{payload}
-use Rattle.contexts.specs.Contexts.{goodContext, updateOf}
-use Rattle.aec.specs.Bins.{refusedFirst, stepOf, decodeOf}
-use Rattle.aec.specs.Says.{steppedSays}
+use Rattle.contexts.specs.Contexts.{goodContext}
+use Rattle.aec.specs.Bins.{refusedFirst, binOf, stepOf, decodeOf}
+use Rattle.aec.specs.Inside.{triedSays, updating}
 use Rattle.aec.specs.Inside.{checkedSays}
 use Rattle.aec.specs.declared.State.{State}
-use Rattle.contexts.specs.declared.Context.{Context}
-use Rattle.answers.proofs.OutcomeLaws.{stops, goes-on, stops-next}
+use Rattle.answers.proofs.OutcomeLaws.{stops, goes, goes-on}
 use Rattle.contexts.proofs.ContextLaws.{context-ranges, updated-is}
 use Rattle.aec.proofs.RangeLaws.{state-ranges}
 use Rattle.aec.proofs.StepLaws.{first-held, step-is}
@@ -18,12 +17,9 @@ use borrow.Author.Needs.{needs}
 use Rattle.aec.proofs.decode.Statement.{statement}
 use Rattle.aec.proofs.decode.Tie as tie
 
--- the step, and what follows it
+-- the step
 abbrev stepping : tie.Start → Unit {0} → Outcome (ℕ × State)
 stepping e _ = let a = e .args in stepOf (payload (a .bytes .now) (a .count)) (a .x) (record { p = a .c .mps; lg = a .c .lg })
-
-abbrev updating : tie.Start → Unit {0} → ℕ × State → Outcome (ℕ × State × Context)
-updating e _ r = done (r .0, r .1, updateOf (e .args .c) (r .0))
 
 -- what is refused first, by the definition's test of the context
 first : (c : tie.After-guard) → let a = c .before .before .before .args in
@@ -64,15 +60,31 @@ enum-known-bin c = search needs
 updated-requires : tie.Need-updated-requires
 updated-requires c κs = search needs
 
+enum-told-2 : tie.Need-enum-told-2
+enum-told-2 c = search needs
+
+slow-requires : tie.Need-slow-requires
+slow-requires c κs =
+    let h = first-held _ _ _ _ (sym (fine (c .before .before .before .before))) in
+    let r = context-ranges _ (h .2) in
+    (h .0, h .1, r .mps, r .low, r .high)
+
+renewed-requires : tie.Need-renewed-requires
+renewed-requires c κs = first-held _ _ _ _ (sym (fine (c .before .before .before .before .before))) .2
+
 enum-known-r : tie.Need-enum-known-r
 enum-known-r c = search needs
 
-enum-known-r-2 : tie.Need-enum-known-r-2
-enum-known-r-2 c = search needs
-
--- the step's answer, by the definition's split
-stepped : (c : tie.After-step) → steppedSays (c .step .result) ≡ stepping (c .before .before .before .before .before .before .before) tt
-stepped c = c .step .ensures ∙ step-is _ _ _ _ (c .before .split-range .ensures .0)
+-- the quick step's answer, by the definition's split
+stepped : (c : tie.After-known-told) →
+    let b = c .before .bin .given in
+    done (b .0 .0, b .0 .1 .0) ≡ stepping (c .before .before .before .before .before .before .before .before .before .before) tt
+stepped c =
+    let s = c .before .before .before in
+    let y = s .before in
+    let a = y .before .before .before .before .before .before .args in
+    subst (λ t. triedSays t (binOf (payload (a .bytes .now) (a .count)) (a .x) (a .c .mps) (y .split-range .result))) (c .before .bin .given .1) (s .step .ensures)
+    ∙ step-is _ _ (record { p = a .c .mps; lg = a .c .lg }) _ (y .split-range .ensures .0)
 
 returns : tie.Need-returns
 unfolding decodeOf
@@ -83,18 +95,22 @@ returns c =
     let e = s .before .before .before .before .before .before .before in
     let good = first-held _ _ _ _ (sym (fine (s .before .before))) .2 in
     ap (λ d. done (b .0 .0, b .0 .1 .0, d)) (c .updated .ensures ∙ updated-is _ _ good)
-    ∙ goes-on (stepping e) (updating e) (fine (s .before .before)) (b .0 .0, b .0 .1 .0) (ap steppedSays (sym (b .1)) ∙ stepped s)
+    ∙ goes-on (stepping e) (λ _. updating (e .args .c)) (fine (s .before .before)) (b .0 .0, b .0 .1 .0) (stepped k)
 
 returns-2 : tie.Need-returns-2
 unfolding decodeOf
 returns-2 c =
-    let s = c .before .before .before in
-    let e = s .before .before .before .before .before .before .before in
-    stops-next (stepping e) (updating e) (fine (s .before .before)) (ap steppedSays (sym (c .before .r .given .1)) ∙ stepped s)
+    let w = c .before in
+    let t = w .before .before .before .before .before in
+    let e = t .before .before .before .before .before in
+    let a = e .args in
+    c .renewed .ensures
+    ∙ ap (λ o. andThen o (updating (a .c))) (w .slow .ensures ∙ step-is _ _ (record { p = a .c .mps; lg = a .c .lg }) _ refl)
+    ∙ goes (λ u. andThen (stepping e u) (updating (a .c))) (fine t)
 
 returns-3 : tie.Need-returns-3
 unfolding decodeOf
-returns-3 c = stops _ (ap checkedSays (sym (c .before .r2 .given .1)) ∙ first (c .before .before .before))
+returns-3 c = stops _ (ap checkedSays (sym (c .before .r .given .1)) ∙ first (c .before .before .before))
 
 pub decode-spec : {M : Type 1} → statement M
 decode-spec =
@@ -107,8 +123,10 @@ decode-spec =
     step-requires
     enum-known-bin
     updated-requires
+    enum-told-2
+    slow-requires
+    renewed-requires
     enum-known-r
-    enum-known-r-2
     returns
     returns-2
     returns-3)

@@ -1,0 +1,2 @@
+-- Renormalisation as a computation; what it is worth, crate aec proves.
+pub mod Reader
