@@ -533,6 +533,15 @@ WITH_SEARCH answer check_units(search next, const uint8_t *stream, size_t n)
     return (answer){UNENDED, at, 0, NO_BIT};
 }
 
+/* The row of a good unit. */
+static inline void write_row(uint32_t *row, bool in_head, const uint8_t *stream, size_t at, size_t end)
+{
+    uint8_t code = stream[at + 3];
+    row[0] = code;
+    row[1] = (uint32_t)at;
+    row[2] = (uint32_t)row_length(in_head, code, stream + at + 4, end - (at + 4));
+}
+
 /* No body is read again: of what was checked only heads are to be known. */
 WITH_SEARCH void write_rows(search next, const uint8_t *stream, size_t n, uint32_t *rows)
 {
@@ -541,9 +550,7 @@ WITH_SEARCH void write_rows(search next, const uint8_t *stream, size_t n, uint32
     while (at < n) {
         uint8_t code = stream[at + 3];
         size_t end = next(stream, n, at + 3);
-        rows[0] = code;
-        rows[1] = (uint32_t)at;
-        rows[2] = (uint32_t)row_length(head, code, stream + at + 4, end - (at + 4));
+        write_row(rows, head, stream, at, end);
         rows += 3;
         head = code == 0xB0 || (head && code != 0xB3);
         at = end;
@@ -571,6 +578,33 @@ answer plain_file_by_three(const uint8_t *stream, size_t length, uint32_t *rows,
 answer plain_file_bytewise(const uint8_t *stream, size_t length, uint32_t *rows, size_t words)
 {
     return file(next_bytewise, stream, length, rows, words);
+}
+
+/* One pass, where the rows of a refusal do not matter: a unit's row is written at once while there is room, and units are
+   counted on where there is none. */
+answer plain_file_one_pass(const uint8_t *stream, size_t length, uint32_t *rows, size_t words)
+{
+    if (LONGEST_STREAM < length)
+        return (answer){TOO_LONG, 0, 0, NO_BIT};
+    if (!prefix_at(stream, length, 0))
+        return (answer){NO_CODE, 0, 0, NO_BIT};
+    state s = {START, false, false, 0, 0};
+    size_t at = 0, units = 0, room = words / 3, bit = NO_BIT;
+    while (at < length) {
+        unit u = unit_at(next_by_three, stream, length, s, at, &bit);
+        if (u.status != DONE)
+            return (answer){u.status, at, 0, bit};
+        if (units < room)
+            write_row(rows + 3 * units, s.where == HEAD, stream, at, u.end);
+        s = u.next;
+        at = u.end;
+        units++;
+    }
+    if (s.where != ENDED && s.where != CLOSED)
+        return (answer){UNENDED, at, 0, NO_BIT};
+    if (room < units)
+        return (answer){FULL, 0, 0, NO_BIT};
+    return (answer){DONE, 0, units, NO_BIT};
 }
 
 /* ── escape removal ── */

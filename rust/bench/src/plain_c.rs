@@ -9,6 +9,7 @@ extern "C" {
     fn plain_nanoseconds() -> u64;
     fn plain_file_by_three(stream: *const u8, length: usize, rows: *mut u32, words: usize) -> Answer;
     fn plain_file_bytewise(stream: *const u8, length: usize, rows: *mut u32, words: usize) -> Answer;
+    fn plain_file_one_pass(stream: *const u8, length: usize, rows: *mut u32, words: usize) -> Answer;
     fn plain_next_by_three(stream: *const u8, length: usize, from: usize) -> usize;
     fn plain_next_bytewise(stream: *const u8, length: usize, from: usize) -> usize;
     fn plain_next_memmem(stream: *const u8, length: usize, from: usize) -> usize;
@@ -45,6 +46,11 @@ pub fn file_by_three(stream: &[u8], rows: &mut [u32]) -> Answer {
 
 pub fn file_bytewise(stream: &[u8], rows: &mut [u32]) -> Answer {
     file_by(plain_file_bytewise, stream, rows)
+}
+
+/// Leaves rows of a refused stream half written.
+pub fn file_one_pass(stream: &[u8], rows: &mut [u32]) -> Answer {
+    file_by(plain_file_one_pass, stream, rows)
 }
 
 fn next_by(f: Next, stream: &[u8], from: usize) -> usize {
