@@ -18,11 +18,15 @@ pub type Row<'a> = (&'static str, Box<dyn Fn(Scale) -> Measured + 'a>);
 
 type Timed = fn(&'static str, Scale) -> Measured;
 
-const RECORDINGS: [(&str, Timed); 5] = [
+const RECORDINGS: [(&str, Timed); 9] = [
     ("filing", rows::filing),
     ("filing-no-00", rows::filing_no_00),
     ("filing-all-00", rows::filing_all_00),
     ("filing-00-01", rows::filing_00_01),
+    ("filing-33", rows::filing_33),
+    ("filing-666", rows::filing_666),
+    ("filing-16383", rows::filing_16383),
+    ("filing-16384", rows::filing_16384),
     ("heads-alone", rows::heads_alone),
 ];
 

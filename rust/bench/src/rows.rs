@@ -66,20 +66,56 @@ pub fn heads_alone(row: &'static str, scale: Scale) -> Measured {
     measure_filing(row, scale, &inputs::heads(scale.stream / 8), &inputs::heads(1000))
 }
 
+/// Example 1 of the scope: what a call costs whatever is filed.
+pub fn filing_33(row: &'static str, scale: Scale) -> Measured {
+    let stream = inputs::one_slice(false, 1080, 0);
+    assert_eq!(stream.len(), 33, "the example's bytes");
+    measure_filing(row, scale, &stream, &stream)
+}
+
+pub fn filing_666(row: &'static str, scale: Scale) -> Measured {
+    let stream: &[u8; 666] = include_bytes!("../../../samples/two-groups.avs");
+    measure_filing(row, scale, stream, stream)
+}
+
+pub fn filing_16383(row: &'static str, scale: Scale) -> Measured {
+    file_small_units(row, scale, 16383)
+}
+
+pub fn filing_16384(row: &'static str, scale: Scale) -> Measured {
+    file_small_units(row, scale, 16384)
+}
+
+/// Units so short that there are many: from 16,384 bytes on the library's first pass keeps more of them for its second.
+fn file_small_units(row: &'static str, scale: Scale, length: usize) -> Measured {
+    let of_length = |length| {
+        inputs::recording(&Shape {
+            length,
+            pictures: 25,
+            slices: 68,
+            slice: (16, 48),
+            body: inputs::body,
+        })
+    };
+    measure_filing(row, scale, &of_length(length), &of_length(1000))
+}
+
 /// Files a recording; a small one is spoiled to see that all rivals refuse alike.
 fn measure_filing(row: &'static str, scale: Scale, stream: &[u8], small: &[u8]) -> Measured {
     let words = check_filing(stream);
     check_refusals(small);
     check_last_slices();
     check_bits();
+    // A short stream again and again, so that the clock's own time is little of a run's.
+    let times = (scale.stream / 32 / stream.len()).max(1);
     let rivals = FILE.iter().map(|&(name, file)| {
         let mut rows = vec![UNTOUCHED; words];
-        let run = Box::new(move || file(stream, &mut rows).count as u64);
+        let run = Box::new(move || (0..times).map(|_| file(stream, &mut rows).count as u64).sum());
         Rival { name, run }
     });
     let work = Work {
         unit: "byte",
-        amount: stream.len(),
+        amount: stream.len() * times,
     };
     measure(row, work, scale.repeats, rivals.collect())
 }
