@@ -1,4 +1,4 @@
-//! Bins, one at a time, by 1 context and by 512.
+//! Bins, one at a time, by 1 context and by 512, and those alone that were not as predicted.
 use crate::inputs;
 use crate::library::{self, Bin, Context, Started, State, Unread};
 use crate::measure::{measure, Measured, Rival, Scale, Work, LIBRARY, SAME};
@@ -72,7 +72,7 @@ fn bins(row: &'static str, scale: Scale, contexts: usize) -> Measured {
 }
 
 #[inline(always)]
-fn run(start: State, indices: &[u16], decode: impl Fn(&mut State, &mut Context) -> Result<u32, Unread>) -> Run {
+fn run(start: State, indices: &[u16], mut decode: impl FnMut(&mut State, &mut Context) -> Result<u32, Unread>) -> Run {
     let mut contexts = [FRESH; 512];
     let mut state = start;
     let mut bins = 0;
@@ -198,4 +198,104 @@ fn check_missing() {
     // 0 where none are.
     assert!(of_starts.into_iter().eq(0..=9), "counts of starts that were met");
     assert!(of_bins.into_iter().eq(0..=1), "counts of bins that were met");
+}
+
+// ── missed bins ──
+
+/// What one bin is decoded from.
+type Pair = (State, Context);
+
+/// Bins of a payload, each from a pair of its own: they and the places after them mixed into one number.
+type Missed = fn(&[u8], &[Pair]) -> u64;
+
+const MISSED: [(&str, Missed); 5] = [
+    (LIBRARY, missed_by_library),
+    (SAME, missed_by_plain_c),
+    ("plain C, by pointers", missed_by_plain_c_in_place),
+    ("plain Rust", missed_by_plain_rust),
+    (NEAR_THE_END, missed_near_the_end),
+];
+
+const NEAR_THE_END: &str = "library, 31 bits left";
+
+/// So many bits are to be left for a missed bin's bits to be taken at once; with fewer the library takes them one by one.
+const WIDE: usize = 32;
+
+/// Bins that were not as predicted, each from a state of its own. Whether the library takes their bits at once shows beside
+/// itself with too few bits left for it.
+pub fn missed(row: &'static str, scale: Scale) -> Measured {
+    let payload = inputs::random_bytes(scale.payload);
+    let pairs = missed_pairs(&payload);
+    check_pairs(&payload, &pairs);
+    let rivals = MISSED.iter().map(|&(name, missed)| {
+        let (payload, pairs) = (&payload, &pairs);
+        let run = Box::new(move || missed(payload, pairs));
+        Rival { name, run }
+    });
+    let work = Work {
+        unit: "bin",
+        amount: pairs.len(),
+    };
+    measure(row, work, scale.repeats, rivals.collect())
+}
+
+/// Where a decode by 512 contexts misses, with `WIDE` bits left, and takes fewer.
+fn missed_pairs(payload: &[u8]) -> Vec<Pair> {
+    let bits = payload.len() * 8;
+    let start = library::start(payload, bits, NO_STATE).state;
+    let mut pairs = Vec::new();
+    run(start, &inputs::indices(payload.len() * 16, 512), |s, c| {
+        let (state, context) = (*s, *c);
+        let bin = keep(library::decode(payload, bits, state, context), s, c)?;
+        if bin != context.mps && state.place + WIDE <= bits && s.place < state.place + WIDE {
+            pairs.push((state, context));
+        }
+        Ok(bin)
+    });
+    pairs
+}
+
+/// All rivals decode each pair alike, and the library with few bits left as with all.
+fn check_pairs(payload: &[u8], pairs: &[Pair]) {
+    let bits = payload.len() * 8;
+    for &(state, context) in pairs {
+        check_decode(payload, bits, state, context);
+        let expected = library::decode(payload, bits, state, context);
+        let near = library::decode(payload, state.place + WIDE - 1, state, context);
+        assert_eq!(near, expected, "{}", NEAR_THE_END);
+        assert_eq!((near.status, near.bin), (0, 1 - context.mps), "a missed bin");
+    }
+}
+
+#[inline(always)]
+fn mix(pairs: &[Pair], decode: impl Fn(&mut State, &mut Context) -> Result<u32, Unread>) -> u64 {
+    pairs.iter().fold(0, |mixed: u64, &(mut state, mut context)| {
+        // A refusal is mixed in as 2, which no bin is.
+        let bin = decode(&mut state, &mut context).unwrap_or(2);
+        mixed.rotate_left(5) ^ (state.place as u64) << 2 ^ u64::from(bin)
+    })
+}
+
+fn missed_by_library(payload: &[u8], pairs: &[Pair]) -> u64 {
+    let bits = payload.len() * 8;
+    mix(pairs, |s, c| keep(library::decode(payload, bits, *s, *c), s, c))
+}
+
+fn missed_near_the_end(payload: &[u8], pairs: &[Pair]) -> u64 {
+    mix(pairs, |s, c| keep(library::decode(payload, s.place + WIDE - 1, *s, *c), s, c))
+}
+
+fn missed_by_plain_c(payload: &[u8], pairs: &[Pair]) -> u64 {
+    let bits = payload.len() * 8;
+    mix(pairs, |s, c| keep(plain_c::decode(payload, bits, *s, *c), s, c))
+}
+
+fn missed_by_plain_c_in_place(payload: &[u8], pairs: &[Pair]) -> u64 {
+    let bits = payload.len() * 8;
+    mix(pairs, |s, c| plain_c::decode_in_place(payload, bits, s, c))
+}
+
+fn missed_by_plain_rust(payload: &[u8], pairs: &[Pair]) -> u64 {
+    let bits = payload.len() * 8;
+    mix(pairs, |s, c| plain_rust::decode(payload, bits, s, c))
 }

@@ -30,12 +30,13 @@ const RECORDINGS: [(&str, Timed); 9] = [
     ("heads-alone", rows::heads_alone),
 ];
 
-const PAYLOADS: [(&str, Timed); 5] = [
+const PAYLOADS: [(&str, Timed); 6] = [
     ("escapes-rich", rows::escapes_rich),
     ("escapes-sparse", rows::escapes_sparse),
     ("escapes-random", rows::escapes_random),
     ("bins-1", bins::one_context),
     ("bins-512", bins::many_contexts),
+    ("bins-missed", bins::missed),
 ];
 
 /// All rows, in the order of the table.
