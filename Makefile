@@ -93,7 +93,7 @@ bench: library
 	scripts/needs cargo gcc ar
 	$(CARGO) run $(MANIFEST) -p bench
 
-# The same in nine links, each with the functions in another order: of each row the median. LINKS=.. for another number.
+# The same in nine links, each with the functions in another order: of each row and rival the median. LINKS=.. for another number.
 bench-links: library
 	scripts/bench-links $(or $(LINKS),9)
 
