@@ -84,6 +84,7 @@ impl Measured {
         self.median_of(SAME) / self.median_of(LIBRARY)
     }
 
+    /// A line for each rival, which scripts/bench-links reads.
     pub fn print(&self) {
         let library = self.median_of(LIBRARY);
         for (name, median) in &self.medians {
@@ -100,12 +101,13 @@ impl Measured {
                 median / library
             );
         }
-        println!("{:<15} library / plain C, same algorithm: {:.3}\n", self.row, self.ratio());
+        println!();
     }
 }
 
 pub fn print_head() {
-    println!("Times are medians of the thread's own time; the last column is the rival's time / the library's time.\n");
+    println!("Times are medians of the thread's own time.");
+    println!("The last column is the rival's time / the library's time: above 1 the library is the faster.\n");
 }
 
 pub fn print_lowest(rows: &[Measured]) {
