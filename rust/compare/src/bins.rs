@@ -1,7 +1,12 @@
 //! Bins: runs from a start on, and single steps from any state.
 
+use std::ops::Range;
+
 use avsplus_sys::{Context, State, AVSPLUS_DONE, AVSPLUS_LONGEST_PAYLOAD};
-use independent::generate::{bins_payload, context, state, states_that_want, Random};
+use independent::generate::{
+    bins_payload, context, payload_that_wants, state, states_that_use, states_that_want, Random, LEFT_TO_BINS, WANTED_BY_BINS,
+    WANTED_BY_ZERO,
+};
 
 use crate::comparison::{alone, Comparison, Entry, Reading};
 use crate::decoder::{Decoder, PlainBinOf};
@@ -202,6 +207,54 @@ fn cut_bins(comparison: &mut Comparison, bytes: &[u8]) {
             }
         }
     }
+}
+
+/// The places that bins near the end begin at: each of a byte, with another byte before it.
+const PLACES: Range<u64> = 8..16;
+/// Bytes that hold more bits than any bin near the end wants, and some bytes more.
+const BYTES_HELD: u64 = 12;
+
+/// A bin that is not the predicted one, near the end of its payload.
+#[derive(Clone, Copy)]
+struct Miss {
+    place: u64,
+    left: u64,
+    wanted: u64,
+}
+
+/// Bins that are not the predicted one, with every count of bits left and wanted at every place of a byte; every so many of
+/// them all. The end is set by the bit count in bytes that hold more, and in or at the end of the last byte.
+pub(crate) fn near_end(comparison: &mut Comparison, step: usize) {
+    let ends = PLACES.flat_map(|place| LEFT_TO_BINS.map(move |left| (place, left)));
+    let all = ends.flat_map(|(place, left)| WANTED_BY_BINS.map(move |wanted| Miss { place, left, wanted }));
+    for miss in all.step_by(step) {
+        let end = miss.place + miss.left;
+        misses(comparison, miss, BYTES_HELD);
+        // Where all that is left are zeros, no more can be wanted by more of them.
+        if miss.wanted <= miss.left + WANTED_BY_ZERO {
+            misses(comparison, miss, (end + 7) / 8);
+        }
+    }
+}
+
+/// In so many bytes; where these are the end, a greater bit count says the same.
+fn misses(comparison: &mut Comparison, miss: Miss, length: u64) {
+    let Miss { place, left, wanted } = miss;
+    let end = (place + left) as usize;
+    let bytes = payload_that_wants(wanted, place, end as u64, length);
+    comparison.input(bytes, |comparison, bytes| {
+        let more = [end + 1, usize::MAX].into_iter().filter(|_| end == 8 * bytes.len());
+        for bits in [end].into_iter().chain(more) {
+            for (state, lg) in states_that_use(wanted, place) {
+                let context = to_context(independent::Context {
+                    lg,
+                    ..independent::fresh()
+                });
+                let state = to_state(state);
+                each_bin(comparison, &Run { bytes, bits, state }, [context; 2]);
+            }
+        }
+    });
 }
 
 /// Every w from none to one more than the greatest, and far more; every index of a table, and some past it.

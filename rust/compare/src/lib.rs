@@ -88,6 +88,8 @@ fn exhaustive(comparison: &mut Comparison, small: bool) {
     payloads::two_byte_golomb(comparison, step);
     payloads::cut_golomb(comparison, !small);
     bins::cut(comparison);
+    // Prime to the number of counts left and wanted, so that all of them come by.
+    bins::near_end(comparison, if small { 31 } else { 1 });
     bins::tables(comparison);
     bins::all_contexts(comparison, if small { 61 } else { 1 });
     slices::of_all_heights(comparison, heights);

@@ -12,7 +12,9 @@ use std::ops::RangeInclusive;
 pub use bodies::{extension_body, header_body};
 pub use damage::damaged;
 pub use fields::{judged_bodies, streams_with, Body};
-pub use payloads::{bins_payload, context, cut_number, payload, state, states_that_want};
+pub use payloads::{
+    bins_payload, context, cut_number, payload, payload_that_wants, state, states_that_use, states_that_want, WANTED_BY_ZERO,
+};
 pub use random::Random;
 pub use recording::stream;
 
@@ -47,3 +49,9 @@ pub const MISSING_OF_NUMBERS: RangeInclusive<u32> = 1..=31;
 pub const MISSING_OF_STARTS: RangeInclusive<u32> = 1..=9;
 /// How many of a bin.
 pub const MISSING_OF_BINS: RangeInclusive<u32> = 1..=1;
+
+/// How many bits can be left before a bin that comes near the end, and how many it can want there: what inputs have to meet.
+/// Past 32 bits, and by more than a byte, since so many may be read at once.
+pub const LEFT_TO_BINS: RangeInclusive<u64> = 0..=40;
+/// As many as are left, and one more.
+pub const WANTED_BY_BINS: RangeInclusive<u64> = 1..=41;

@@ -138,6 +138,47 @@ pub fn states_that_want(place: u64) -> Vec<State> {
     all.map(|(rs, rt, vs, vt)| State { rs, rt, vs, vt, place }).collect()
 }
 
+/// Bits that a bin wants where its value is 0 and a 1 comes next: the value has to reach 256.
+pub const WANTED_BY_ZERO: u64 = 9;
+/// The limits of an lg, which are those of bypass and of the stuffing bin.
+const GREATEST_LG: u64 = 1023;
+const LEAST_LG: u64 = 4;
+
+/// So many bytes for a bin that wants so many bits from a place on, of a payload with an end: zeros that keep the value at 0
+/// as long as that takes, be it past the end, then a 1 and other bits up to the end. All else are ones, which a reader that
+/// strays would see.
+pub fn payload_that_wants(wanted: u64, place: u64, end: u64, length: u64) -> Vec<u8> {
+    let first_one = place + wanted.saturating_sub(WANTED_BY_ZERO);
+    let is_one = |&i: &u64| i < place || i == first_one || (i > first_one && (i >= end || i % 3 != 0));
+    let mut bytes = vec![0; length as usize];
+    for i in (0..8 * length).filter(is_one) {
+        bytes[(i / 8) as usize] |= 0x80 >> (i % 8);
+    }
+    bytes
+}
+
+/// States at the place of such a payload, each with the lg of a bin that is not the predicted one and wants so many bits: as
+/// the range is, borrowed, and borrowed where valueS is less, which never wants more than nine bits and nine only of a 0. With
+/// the least lg the range is doubled eight times, so that no fewer bits are wanted.
+pub fn states_that_use(wanted: u64, place: u64) -> Vec<(State, u64)> {
+    let value = 256_u64 >> wanted;
+    let mut all = vec![((3, 255, 3, value), GREATEST_LG), ((2, 1, 3, value + 2), GREATEST_LG)];
+    if wanted <= WANTED_BY_ZERO + 1 {
+        all.push(((3, 254, 3, value.saturating_sub(1)), GREATEST_LG));
+    }
+    if value <= 1 {
+        all.push(((3, 255, 3, 254 + value), LEAST_LG));
+    }
+    if value == 0 {
+        all.push(((2, 0, 3, 255), LEAST_LG));
+    }
+    if wanted == WANTED_BY_ZERO {
+        all.push(((3, 0, 3, 0), LEAST_LG));
+    }
+    let of = |(rs, rt, vs, vt)| State { rs, rt, vs, vt, place };
+    all.into_iter().map(|(state, lg)| (of(state), lg)).collect()
+}
+
 /// A context; once in eight outside its ranges in one field.
 pub fn context(random: &mut Random) -> Context {
     let lg = match random.below(4) {
