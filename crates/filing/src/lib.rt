@@ -242,16 +242,21 @@ fn file_keeping(stream: &[u8], spans: &mut [u16], rows: &mut [u32]) -> FilingAns
     }
 }
 
-// A stream is filed: its rows are written to the lent words, or it is refused and the words stay. What a word for spans begins with is
-// never read; it is no 0 since the compiler would have memset write zeros, which the library has not.
+// A stream is filed: its rows are written to the lent words, or it is refused and the words stay. Short streams lend few words for
+// spans, since all are filled before the first is kept. What they are filled with is never read; it is no 0, since the compiler
+// would have memset write zeros, which the library has not.
 pub fn file(stream: &[u8], rows: &mut [u32]) -> FilingAnswer
     ensures answer { λ r. ⌜ filingSays r ≡ filed (now (stream .entry)) (ListN.length (now (rows .entry))) ⌝ }
     ensures words { λ r. ⌜ now (rows .exit) ≡ wordsAfter (filingInto (now (stream .entry)) (ListN.length (now (rows .entry)))) (now (rows .entry)) ⌝ }
     ensures reading { λ r. ⌜ FiledByReading (now (stream .entry)) (now (rows .entry)) (now (rows .exit)) r ⌝ }
 {
+    if stream.len() < 1024 {
+        let mut spans = [1u16; 32];
+        return file_keeping(stream, &mut spans, rows);
+    }
     if stream.len() < 16384 {
-        let mut few = [1u16; 256];
-        return file_keeping(stream, &mut few, rows);
+        let mut spans = [1u16; 256];
+        return file_keeping(stream, &mut spans, rows);
     }
     let mut spans = [1u16; 15360];
     file_keeping(stream, &mut spans, rows)
