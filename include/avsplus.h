@@ -6,7 +6,8 @@
  *
  * No call has a precondition beyond C's own: a pointer lent with a length points to that many elements, and a lent output
  * overlaps nothing else that is lent. A null pointer may be lent with length 0 only. No call allocates, keeps a pointer, or
- * writes past what it says. A refusal leaves all lent memory as it was.
+ * writes past what it says. A refusal leaves all lent memory as it was. Of the stack avsplus_file takes at most 32 KiB, and every
+ * other call at most 2 KiB.
  *
  * Numbers are written to lent memory from its start on, and the answer's count says how many; later ones stay. What is not
  * given is not written, needs no room and is never FULL.
