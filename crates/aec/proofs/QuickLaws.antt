@@ -20,7 +20,7 @@ use Rattle.renorm.specs.Reader.{doublingsOf, neededOf, leftOf, shiftedOf, renor
 use Rattle.renorm.specs.declared.Registers.{Registers}
 use Rattle.renorm.specs.declared.Renormalised.the-variants.{Done}
 use Rattle.renorm.proofs.CountLaws.{Doubles, Needs, doubles, needs-bits}
-use Rattle.renorm.proofs.ShiftedLaws.{done-holds, word-of}
+use Rattle.renorm.proofs.ShiftedLaws.{left-near, done-holds, word-of}
 use Rattle.aec.specs.Bins.{shifts, normaliseOf, widenOf, settleOf, remainderOf, unpredictedOf}
 use Rattle.aec.specs.Inside.{headOf}
 use Rattle.aec.specs.declared.State.{State}
@@ -40,7 +40,7 @@ next-bit v j =
 module _ (enough : Shift → Bool) (step : ℕ → ℕ) (bits : List ℕ) (place m v : ℕ) (a : Ahead bits place m v)
     (beside : ℕ → ℕ) (steps : (i : ℕ) → beside (suc i) ≡ step (beside i)) where
   -- after i turns
-  abbrev pub turned : ℕ → Shift
+  abbrev turned : ℕ → Shift
   turned i = record { value = v / 2 ^ (m - i); beside = beside i; place = place + i }
 
   turn-more : (i : ℕ) → i < m → enough (turned i) ≡ false
@@ -59,18 +59,18 @@ module _ (enough : Shift → Bool) (step : ℕ → ℕ) (bits : List ℕ) (place
       ∙ ap (λ (n : ℕ). shifts enough step (drop (place + suc i) bits) (record { value = v / 2 ^ (m - suc i); beside = n; place = place + i + 1 })) (sym (steps i))
       ∙ ap (λ (n : ℕ). shifts enough step (drop (place + suc i) bits) (record { value = v / 2 ^ (m - suc i); beside = beside (suc i); place = n })) p
 
-  pub turns-more : (k : ℕ) → k ≤ m → ((i : ℕ) → i < k → enough (turned i) ≡ false)
+  turns-more : (k : ℕ) → k ≤ m → ((i : ℕ) → i < k → enough (turned i) ≡ false)
       → shifts enough step (drop place bits) (record { value = v / 2 ^ m; beside = beside 0; place = place }) ≡ shifts enough step (drop (place + k) bits) (turned k)
   turns-more zero h e = simp (add-zero, sub-zero)
   turns-more (suc k) h e = turns-more k (omega arith) (λ i j. e i (omega arith)) ∙ turn-more k (omega arith) (e k (omega arith))
 
   -- so many turns, and then there is enough
-  pub turns-end : (k : ℕ) → k ≤ m → ((i : ℕ) → i < k → enough (turned i) ≡ false) → enough (turned k) ≡ true
+  turns-end : (k : ℕ) → k ≤ m → ((i : ℕ) → i < k → enough (turned i) ≡ false) → enough (turned k) ≡ true
       → shifts enough step (drop place bits) (record { value = v / 2 ^ m; beside = beside 0; place = place }) ≡ done (turned k)
   turns-end k h e f = turns-more k h e ∙ shifts-enough enough step (drop (place + k) bits) (turned k) f
 
 -- both loops
-pub widens : (bits : List ℕ) (place m v range k : ℕ) → Ahead bits place m v → k ≤ m → Doubles range k
+widens : (bits : List ℕ) (place m v range k : ℕ) → Ahead bits place m v → k ≤ m → Doubles range k
     → widenOf bits (v / 2 ^ m) range place ≡ done (record { value = v / 2 ^ (m - k); beside = range * 2 ^ k; place = place + k })
 widens bits place m v range k a h d =
     let one : range * 2 ^ 0 ≡ range = mul-one range in
@@ -78,7 +78,7 @@ widens bits place m v range k a h d =
     k h (λ i j. lt-leb 256 (range * 2 ^ i) (d .below i j)) (le-leb 256 (range * 2 ^ k) (d .reached)) in
     rw one at t
 
-pub normalises : (bits : List ℕ) (place m v n : ℕ) → Ahead bits place m v → n ≤ m → Needs v m n
+normalises : (bits : List ℕ) (place m v n : ℕ) → Ahead bits place m v → n ≤ m → Needs v m n
     → normaliseOf bits (v / 2 ^ m) place ≡ done (record { value = v / 2 ^ (m - n); beside = n; place = place + n })
 normalises bits place m v n a h d =
     turns-end (λ z. leb 256 (z .value)) (λ vs. vs + 1) bits place m v a (λ i. i) (λ i. sym (add-one i))
@@ -88,17 +88,17 @@ normalises bits place m v n a h d =
 
 module _ (bits : List ℕ) (x : State) (y : Split) (v width : ℕ) (fits : y .t ≤ 255) (small : v < 2 ^ width) (some : 1 ≤ width) (a : Ahead bits (x .place) width v) where
   -- the head and the bits as one number, and how many of them are left
-  abbrev pub borrows : Bool
+  abbrev borrows : Bool
   borrows = not (eqb (y .s) (x .vs))
 
-  abbrev pub left : ℕ
+  abbrev left : ℕ
   left = leftOf width borrows
 
-  abbrev pub number : ℕ
+  abbrev number : ℕ
   number = headOf x y * 2 ^ left + v
 
   -- the value, the place, and the bits ahead
-  abbrev pub Opened : Type 0
+  abbrev Opened : Type 0
   Opened = (done (number / 2 ^ left, x .place + (width - left)) ≡ remainderOf bits x y) × Ahead bits (x .place + (width - left)) left number
 
   open-even : y .s ≡ x .vs → Opened
@@ -131,7 +131,7 @@ module _ (bits : List ℕ) (x : State) (y : Split) (v width : ℕ) (fits : y .t 
         ahead-same bits (x .place + 1) m v (n * 2 ^ m + v) o (ahead-past bits (x .place) 1 m v (rw w at a)),
       )
 
-  pub opened : Opened
+  opened : Opened
   opened = by-test (eqb (y .s) (x .vs)) (λ t. open-even (eqb-true _ _ t)) (λ f. open-past (eqb-false _ _ f))
 
 -- ── the state after a bin that was not predicted ──
@@ -160,10 +160,6 @@ by-number bits x y width left number k n r a d e f g h =
     let p : x .place + (width - (left - k - n)) ≡ x .place + (width - left) + k + n = omega arith in
     rw p (after-remainder bits x y (x .place + (width - left)) left number k n r a d e f g)
 
-left-near : (width : ℕ) (b : Bool) → 25 ≤ width → (24 ≤ leftOf width b) × (leftOf width b ≤ width)
-left-near width true h = (omega arith, omega arith)
-left-near width false h = (omega arith, omega arith)
-
 -- the number fits 64 bits
 number-small : (x : State) (y : Split) (left v : ℕ) → x .vt ≤ 255 → left ≤ 32 → v < 4294967296 → headOf x y * 2 ^ left + v < 18446744073709551616
 number-small x y left v h i j =
@@ -179,7 +175,7 @@ by-word : (bits : List ℕ) (x : State) (y : Split) (z : Registers) (v width : �
     → done (record { rs = 0; rt = z .rt; vs = z .vs; vt = z .vt; place = x .place + z .taken }) ≡ unpredictedOf bits x y
 by-word bits x y z v width small fits some few least most fit a e =
     let left = leftOf width (not (eqb (y .s) (x .vs))) in
-    let (near, within) = left-near width (not (eqb (y .s) (x .vs))) least in
+    let (within, near) = left-near width (not (eqb (y .s) (x .vs))) in
     let (enough, same) = done-holds (headOf x y * 2 ^ left + v) left width (y .range) z e in
     let d = doubles (y .range) some few in
     let (r, b) = opened bits x y v width fits fit (omega arith) a in

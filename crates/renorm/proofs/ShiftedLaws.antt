@@ -1,7 +1,7 @@
 -- What renormalisation answers, and what stands behind an answer that is done.
 use Prim.Native.Nat.{ℕ, _+_, _-_, _*_, _/_, _%_, _^_, _≤_, _<_}
 use mathlib.Core.Path.{_≡_, refl, sym, ap, subst, _∙_}
-use mathlib.Core.Bool.{Bool}
+use mathlib.Core.Bool.{Bool, true, false}
 use native.Mathlib.Omega.{arith}
 use borrow.Author.Tests.{le-leb, lt-leb, leb-true, leb-false}
 use lib.Dec.{leb}
@@ -11,6 +11,11 @@ use Rattle.bits.proofs.TestLaws.{by-test}
 use Rattle.renorm.specs.Reader.{doublingsOf, neededOf, shiftedOf, leftOf, afterWord}
 use Rattle.renorm.specs.declared.Registers.{Registers}
 use Rattle.renorm.specs.declared.Renormalised.the-variants.{Done, Short}
+
+-- at most one of the bits is taken already
+pub left-near : (width : ℕ) (b : Bool) → (leftOf width b ≤ width) × (width ≤ leftOf width b + 1)
+left-near width true = (omega arith, omega arith)
+left-near width false = (omega arith, omega arith)
 
 pub short-at : (value left width range : ℕ) → left - doublingsOf range < neededOf value (left - doublingsOf range) → shiftedOf value left width range ≡ Short
 unfolding shiftedOf

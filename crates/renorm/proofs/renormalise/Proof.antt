@@ -1,8 +1,7 @@
 -- The bits follow the head as one number.
 use Prim.Native.Nat.{ℕ, _+_, _-_, _*_, _%_, _^_, _≤_, _<_}
-use mathlib.Core.Path.{_≡_, refl, sym, ap, subst, _∙_}
-use mathlib.Core.Bool.{Bool, true, false}
-use mathlib.Core.List.{List}
+use mathlib.Core.Path.{_≡_, refl, sym, ap, _∙_}
+use mathlib.Core.Bool.{Bool}
 use native.Mathlib.Omega.{arith}
 use native.Mathlib.Nat.{mul-le-mul-right}
 use borrow.Author.Needs.{needs}
@@ -14,6 +13,7 @@ use Rattle.bits.specs.declared.Word.the-variants as word
 use Rattle.bits.proofs.WordLaws.{word-ahead}
 use Rattle.renorm.specs.Reader.{leftOf, shiftedOf, afterWord}
 use Rattle.renorm.specs.declared.Renormalised.the-variants.{Short}
+use Rattle.renorm.proofs.ShiftedLaws.{left-near}
 use Rattle.renorm.proofs.renormalise.Statement.{statement}
 use Rattle.renorm.proofs.renormalise.Tie as tie
 
@@ -22,10 +22,6 @@ read-word-requires c κs = search needs
 
 enum-known-word : tie.Need-enum-known-word
 enum-known-word c = search needs
-
-left-within : (width : ℕ) (b : Bool) → 1 ≤ width → (leftOf width b ≤ width) × (width ≤ leftOf width b + 1)
-left-within width true h = (omega arith, omega arith)
-left-within width false h = (omega arith, omega arith)
 
 -- nothing is shifted out, and the bits fit after it
 shifted-head : (head left : ℕ) → head < 65536 → left ≤ 32 → head * 2 ^ left % 18446744073709551616 ≡ head * 2 ^ left
@@ -54,7 +50,7 @@ left-bounds l =
     let k = l .before in
     let w = wide k in
     let e = l .left-of .ensures in
-    let b = left-within (width k) (entry k .args .borrows) (omega arith) in
+    let b = left-near (width k) (entry k .args .borrows) in
     (omega arith, omega arith, omega arith)
 
 left-of-requires : tie.Need-left-of-requires
