@@ -12,6 +12,10 @@ pub all-append : {A : Type 0} (P : A → Type 0) (l m : List A) → All P l → 
 all-append P [] m h k = k
 all-append P (x ∷ l) m h k = (h .0, all-append P l m (h .1) k)
 
+pub all-right : {A : Type 0} (P : A → Type 0) (l m : List A) → All P (l ++ m) → All P m
+all-right P [] m h = h
+all-right P (x ∷ l) m h = all-right P l m (h .1)
+
 pub all-map : {A : Type 0} {P Q : A → Type 0} → ((a : A) → P a → Q a) → (l : List A) → All P l → All Q l
 all-map f [] h = tt
 all-map f (a ∷ l) h = (f a (h .0), all-map f l (h .1))

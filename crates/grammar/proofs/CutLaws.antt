@@ -136,7 +136,7 @@ units-alone : (us : List StreamUnit) → All No001 (map chunk us) → All Alone 
 units-alone [] h = tt
 units-alone (u ∷ us) h = (chunk-alone u (h .0), units-alone us (h .1))
 
-prefixed-units : (us : List StreamUnit) → concatMap prefixed (map chunk us) ≡ concatMap bytes us
+pub prefixed-units : (us : List StreamUnit) → concatMap prefixed (map chunk us) ≡ concatMap bytes us
 prefixed-units [] = refl
 prefixed-units (u ∷ us) = rw (prefixed-units us)
 

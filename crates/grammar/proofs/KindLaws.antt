@@ -1,18 +1,18 @@
 -- Kinds of unit are told apart.
 use Prim.Native.Nat.{ℕ}
 use mathlib.Core.Path.{_≡_, refl, sym, _∙_, ap, subst}
-use mathlib.Core.Logic.{_⊎_, inl, inr}
+use mathlib.Core.Logic.{_⊎_, inl, inr, _↔_}
 use mathlib.Core.List.{List, [], _∷_, map}
 use mathlib.Core.Bool.{Bool, true, false, cond, _&&_, not}
 use denote.Enum.Declared
 use mir.Val.{hasKey}
 use types.Run.{OneOf, miss}
 use native.Mathlib.Omega.{arith}
-use borrow.Author.Tests.{eqb-true, eq-eqb}
+use borrow.Author.Tests.{eqb-true, eq-eqb, leb-true}
 use lib.Dec.{T, leb, eqb}
 use Rattle.answers.specs.Answers.{Outcome, done, refused, UNKNOWN}
 use Rattle.bits.specs.Lists.{All}
-use Rattle.answers.proofs.OutcomeLaws.{undone, done-one}
+use Rattle.answers.proofs.OutcomeLaws.{undone, done-one, not-done}
 use Rattle.bits.proofs.TestLaws.{by-test, and-true}
 use Rattle.startcode.specs.Kinds.{Codes, kindIn, kinds, kindOf}
 use Rattle.startcode.specs.declared.Kind.{Kind}
@@ -99,3 +99,29 @@ kind-in (x ∷ cs) c = by-test (leb (x .first) c && leb c (x .last)) (λ t. inl 
 pub kind-or-not : (c : ℕ) → ((k : Kind) × (kindOf c ≡ done k)) ⊎ (kindOf c ≡ refused UNKNOWN [])
 unfolding kindOf
 kind-or-not c = kind-in kinds c
+
+-- ── a kind with one code byte ──
+
+-- each line of this kind has this byte alone
+abbrev only : Kind → ℕ → List Codes → Bool
+only k byte [] = true
+only k byte (c ∷ cs) = cond (sameKind (c .kind) k) (eqb (c .first) byte && eqb (c .last) byte) true && only k byte cs
+
+only-code : (cs : List Codes) (k : Kind) (byte c : ℕ) → only k byte cs ≡ true → kindIn cs c ≡ done k → c ≡ byte
+only-code [] k byte c t e = not-done e
+only-code (x ∷ cs) k byte c t e =
+    let p = and-true (cond (sameKind (x .kind) k) (eqb (x .first) byte && eqb (x .last) byte) true) (only k byte cs) t in
+    by-test (leb (x .first) c && leb c (x .last))
+    (λ i.
+    let q = and-true (leb (x .first) c) (leb c (x .last)) i in
+    let s = true-same (x .kind) k (done-one (rw i at e)) in
+    let f = and-true (eqb (x .first) byte) (eqb (x .last) byte) (rw s at (p .0)) in
+    let l = leb-true (x .first) c (q .0) in let m = leb-true c (x .last) (q .1) in
+    let a = eqb-true (x .first) byte (f .0) in let b = eqb-true (x .last) byte (f .1) in
+    omega arith)
+    (λ i. only-code cs k byte c (p .1) (rw i at e))
+
+-- a sequence header's code byte is B0, and no other unit's is
+pub header-code : (c : ℕ) → (kindOf c ≡ done kind.SequenceHeader) ↔ (c ≡ 0xB0)
+unfolding kindOf
+header-code c = (only-code kinds kind.SequenceHeader 0xB0 c refl, λ e. rw e)

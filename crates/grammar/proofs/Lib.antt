@@ -1,6 +1,9 @@
+pub mod ListLaws
 pub mod KindLaws
 pub mod CutLaws
 pub mod Unique
+pub mod HeaderLaws
+pub mod StartLaws
 pub mod Division
 pub mod BodyLaws
 pub mod StepLaws

@@ -28,6 +28,7 @@ use Rattle.grammar.specs.declared.State.{State}
 use Rattle.grammar.specs.declared.State.the-variants.{Start}
 use Rattle.grammar.specs.declared.Reason.{Reason}
 use Rattle.grammar.specs.declared.Reason.the-variants as reason
+use Rattle.grammar.proofs.ListLaws.{concat-append}
 use Rattle.grammar.proofs.CutLaws.{No001, chunk, prefixed, chunk-alone, cut-law}
 use Rattle.grammar.proofs.StepLaws.{step-sound, step-complete}
 use Rattle.grammar.proofs.Filing.{walked-iff}
@@ -61,8 +62,7 @@ stopped-as : (why : Reason) (at : ℕ) (s : Stopped) → _≡_ {A = Walk} (stopA
 stopped-as why at s e = let z = bad-same e in (ap (λ (s : Stopped). s .reason) (sym z), ap (λ (s : Stopped). s .offset) (sym z))
 
 concat-more : (us : List StreamUnit) (u : StreamUnit) → concatMap bytes (us ++ u ∷ []) ≡ concatMap bytes us ++ bytes u
-concat-more [] u = append-nil (bytes u)
-concat-more (v ∷ us) u = rw (concat-more us u) (sym (append-assoc (bytes v) (concatMap bytes us) (bytes u)))
+concat-more us u = concat-append bytes us (u ∷ []) ∙ ap (λ (l : List ℕ). concatMap bytes us ++ l) (append-nil (bytes u))
 
 -- the offset after one more unit
 offset-more : (us : List StreamUnit) (u : StreamUnit) → length (concatMap bytes (us ++ u ∷ [])) ≡ length (concatMap bytes us) + length (bytes u)

@@ -12,7 +12,8 @@ use Rattle.grammar.specs.Lists.{concatMap}
 use Rattle.grammar.specs.Grammar.{StreamUnit, bytes, Alone}
 use Rattle.grammar.specs.Reader.{Cut, noCut, cut}
 use Rattle.grammar.specs.Refusals.{HasCode}
-use Rattle.grammar.proofs.CutLaws.{No001, chunk, prefixed, alone-chunk, chunk-alone, suffix-clean, begins-true, cut-law, rebuilt, cleaned}
+use Rattle.grammar.proofs.ListLaws.{concat-append}
+use Rattle.grammar.proofs.CutLaws.{No001, chunk, prefixed, prefixed-units, alone-chunk, chunk-alone, suffix-clean, begins-true, cut-law, rebuilt, cleaned}
 
 -- the stream's end, or 00 00 01
 abbrev pub Edge : List ℕ → Type 0
@@ -73,8 +74,7 @@ units-clean [] cs h = (tt, h)
 units-clean (u ∷ us) cs h = let r = units-clean us cs (h .1) in ((chunk-alone u (h .0), r .0), r .1)
 
 units-bytes : (us : List StreamUnit) (cs : List (List ℕ)) → concatMap prefixed (map chunk us ++ cs) ≡ concatMap bytes us ++ concatMap prefixed cs
-units-bytes [] cs = refl
-units-bytes (u ∷ us) cs = ap (λ (l : List ℕ). bytes u ++ l) (units-bytes us cs) ∙ sym (append-assoc (bytes u) (concatMap bytes us) (concatMap prefixed cs))
+units-bytes us cs = concat-append prefixed (map chunk us) cs ∙ ap (λ (l : List ℕ). l ++ concatMap prefixed cs) (prefixed-units us)
 
 -- a stream that begins 00 00 01 and whose chunks begin with those of units begins with these units
 pub uncut-ahead : (s : List ℕ) (us : List StreamUnit) (cs : List (List ℕ)) → HasCode s → cut s .chunks ≡ map chunk us ++ cs → (concatMap bytes us ++ concatMap prefixed cs ≡ s) × All Alone us × All No001 cs

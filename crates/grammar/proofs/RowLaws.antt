@@ -1,13 +1,15 @@
 -- A row's length is the whole body of user data and opaque extensions, and otherwise the body up to its last byte that is not 0.
+-- Rows of units one after another.
 use Prim.Native.Nat.{ℕ, suc, _+_, _≤_, _<_}
 use mathlib.Core.Path.{_≡_, refl, sym, _∙_, ap}
 use mathlib.Core.Logic.{_≢_, inl, inr, _↔_}
-use mathlib.Core.List.{List, [], _∷_, _++_}
+use mathlib.Core.List.{List, [], _∷_, _++_, map}
 use mathlib.Core.Bool.{Bool, true, false, cond, not}
 use native.Mathlib.Omega.{arith}
+use native.Mathlib.Nat.{add-assoc}
 use borrow.Author.Tests.{eqb-true, eqb-false, not-true}
 use lib.Dec.{eqb}
-use lib.ListN.{length, length-map, replicate}
+use lib.ListN.{length, length-append, length-map, replicate}
 use Rattle.answers.specs.Answers.{Outcome, done, refused}
 use Rattle.answers.proofs.OutcomeLaws.{not-done}
 use Rattle.bits.proofs.TestLaws.{by-test, contrary, and-true}
@@ -17,8 +19,10 @@ use Rattle.startcode.specs.declared.Kind.the-variants as kind
 use Rattle.bodies.specs.Extensions.{numbered, HasNumber, isOpaque}
 use Rattle.bodies.specs.declared.Scope.{Scope}
 use Rattle.bodies.specs.declared.Scope.the-variants.{Head, Picture}
-use Rattle.grammar.specs.Rows.{Placed, placedUnits, rowsFrom, kept, trimmed, wholeBody, isWhole, rowLength, Opaque, Whole, Trimmed, LengthIs}
+use Rattle.grammar.specs.Lists.{concatMap}
+use Rattle.grammar.specs.Rows.{Row, Placed, placedUnits, rowsFrom, kept, trimmed, wholeBody, isWhole, rowLength, Opaque, Whole, Trimmed, LengthIs}
 use Rattle.grammar.specs.Grammar.{bytes, Reading, units}
+use Rattle.grammar.proofs.ListLaws.{concat-append}
 use Rattle.grammar.proofs.Filing.{unitOf, units-of-placed}
 use Rattle.grammar.proofs.KindLaws.{apart}
 use Rattle.grammar.specs.Reader.{sameKind}
@@ -129,3 +133,38 @@ rows-length at (p ∷ ps) = ap suc (rows-length (at + length (bytes (p .unit))) 
 
 pub units-length : (r : Reading) → length (placedUnits r) ≡ length (units r)
 units-length r = sym (ap length (sym (units-of-placed r)) ∙ length-map (placedUnits r) unitOf)
+
+-- ── units one after another ──
+
+-- the bytes of units
+abbrev pub bytesOf : List Placed → List ℕ
+bytesOf ps = concatMap (λ (p : Placed). bytes (p .unit)) ps
+
+pub concat-units : (ps : List Placed) → concatMap bytes (map unitOf ps) ≡ bytesOf ps
+concat-units [] = refl
+concat-units (p ∷ ps) = ap (λ (l : List ℕ). bytes (p .unit) ++ l) (concat-units ps)
+
+pub bytes-append : (ps qs : List Placed) → bytesOf (ps ++ qs) ≡ bytesOf ps ++ bytesOf qs
+bytes-append ps qs = concat-append (λ (p : Placed). bytes (p .unit)) ps qs
+
+-- the row of a unit at an offset
+abbrev pub rowFor : ℕ → Placed → Row
+rowFor at p = record { code = p .unit .code; offset = at; length = rowLength p }
+
+-- a unit's offset is the number of bytes in the units before it
+pub rows-append : (at : ℕ) (ps qs : List Placed) (n : ℕ) → n ≡ at + length (bytesOf ps) → rowsFrom at (ps ++ qs) ≡ rowsFrom at ps ++ rowsFrom n qs
+rows-append at [] qs n e = let f : at ≡ n = omega arith in ap (λ (k : ℕ). rowsFrom k qs) f
+rows-append at (p ∷ ps) qs n e =
+    let l = length-append (bytes (p .unit)) (bytesOf ps) in
+    ap (λ (rs : List Row). rowFor at p ∷ rs) (rows-append (at + length (bytes (p .unit))) ps qs n (omega arith))
+
+-- a row with so much more in its offset
+abbrev pub shifted : ℕ → Row → Row
+shifted n row = record { code = row .code; offset = n + row .offset; length = row .length }
+
+-- rows shift by what stands before
+pub rows-shift : (n at : ℕ) (ps : List Placed) → rowsFrom (n + at) ps ≡ map (shifted n) (rowsFrom at ps)
+rows-shift n at [] = refl
+rows-shift n at (p ∷ ps) =
+    ap (λ (rs : List Row). rowFor (n + at) p ∷ rs)
+    (ap (λ (k : ℕ). rowsFrom k ps) (add-assoc n at (length (bytes (p .unit)))) ∙ rows-shift n (at + length (bytes (p .unit))) ps)

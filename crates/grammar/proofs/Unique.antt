@@ -30,15 +30,20 @@ compare-prefixes [] x b y e = inl (record { mid = b; longer = refl; rest = e })
 compare-prefixes (c ∷ a) x [] y e = inr (record { mid = c ∷ a; longer = refl; rest = sym e })
 compare-prefixes (c ∷ a) x (d ∷ b) y e = elim (compare-prefixes a x b y (cc)) [ inl s ↦ inl (record { mid = s .mid; longer = cc; rest = s .rest }) | inr s ↦ inr (record { mid = s .mid; longer = cc; rest = s .rest }) ]
 
+-- where a 00 00 01 stands so many bytes before units, these bytes are none, or begin with it
+pub code-between : (mid after : List ℕ) (vs : List StreamUnit) → 0 ∷ 0 ∷ 1 ∷ after ≡ mid ++ concatMap bytes vs → (mid ≡ []) ⊎ ((more : List ℕ) × (mid ≡ 0 ∷ 0 ∷ 1 ∷ more))
+code-between [] after vs e = inl refl
+code-between (a ∷ []) after [] e = let z : _≡_ {A = ℕ} 0 1 = cc in absurd (omega arith)
+code-between (a ∷ []) after (v ∷ vs) e = let z : _≡_ {A = ℕ} 0 1 = cc in absurd (omega arith)
+code-between (a ∷ b ∷ []) after [] e = let z : _≡_ {A = ℕ} 0 1 = cc in absurd (omega arith)
+code-between (a ∷ b ∷ []) after (v ∷ vs) e = let z : _≡_ {A = ℕ} 0 1 = cc in absurd (omega arith)
+code-between (a ∷ b ∷ c ∷ m) after vs e = inr (m, cc)
+
 -- what stands between two places where units begin is nothing, or begins with 00 00 01
 between : (mid : List ℕ) (us vs : List StreamUnit) → concatMap bytes us ≡ mid ++ concatMap bytes vs → (mid ≡ []) ⊎ ((after : List ℕ) × (mid ≡ 0 ∷ 0 ∷ 1 ∷ after))
-between [] us vs e = inl refl
+between [] [] vs e = inl refl
 between (a ∷ m) [] vs e = let z : _≡_ {A = ℕ} 0 1 = cc in absurd (omega arith)
-between (a ∷ []) (u ∷ us) [] e = let z : _≡_ {A = ℕ} 0 1 = cc in absurd (omega arith)
-between (a ∷ []) (u ∷ us) (v ∷ vs) e = let z : _≡_ {A = ℕ} 0 1 = cc in absurd (omega arith)
-between (a ∷ b ∷ []) (u ∷ us) [] e = let z : _≡_ {A = ℕ} 0 1 = cc in absurd (omega arith)
-between (a ∷ b ∷ []) (u ∷ us) (v ∷ vs) e = let z : _≡_ {A = ℕ} 0 1 = cc in absurd (omega arith)
-between (a ∷ b ∷ c ∷ m) (u ∷ us) vs e = inr (m, cc)
+between mid (u ∷ us) vs e = code-between mid (u .code ∷ u .body ++ concatMap bytes us) vs e
 
 -- a unit that begins another unit is all of it
 whole : (u v : StreamUnit) (us vs : List StreamUnit) → Alone v → Shorter (bytes u) (concatMap bytes us) (bytes v) (concatMap bytes vs) → (u ≡ v) × (concatMap bytes us ≡ concatMap bytes vs)

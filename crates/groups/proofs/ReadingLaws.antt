@@ -9,9 +9,8 @@ use lib.ListN.{length}
 use Rattle.answers.specs.Answers.{Outcome, done, refused, NO-ROW}
 use Rattle.answers.proofs.OutcomeLaws.{not-done, not-refused, done-one}
 use Rattle.bits.specs.Lists.{All}
-use Rattle.bits.proofs.ListLaws.{all-append, all-map, absent}
+use Rattle.bits.proofs.ListLaws.{all-map, absent}
 use Rattle.bits.proofs.TestLaws.{by-test}
-use Rattle.startcode.specs.declared.Kind.{Kind}
 use Rattle.startcode.specs.declared.Kind.the-variants as kind
 use Rattle.bodies.specs.Answers.{answerOf, Extension, display, copyright, opaque}
 use Rattle.bodies.specs.Extensions.{HasNumber, numbered}
@@ -23,11 +22,11 @@ use Rattle.bodies.specs.declared.SequenceHeader.{SequenceHeader}
 use Rattle.bodies.proofs.ExtensionLaws.{plain-made, coloured-made}
 use Rattle.bodies.proofs.Main.{display-iff}
 use Rattle.grammar.specs.Lists.{AtMostOne, concatMap}
-use Rattle.grammar.specs.Grammar.{StreamUnit, IsKind, Picture, Group, pictureUnits, groupUnits, IsHeader, IsDisplay, PictureExtra, IsSlice, IsPictureHead, IsPicture, HeadExtra, DisplayUnit, FirstIsI, IsGroup, IsEnding, sliceRule}
-use Rattle.grammar.specs.Reader.{sameKind, isKind}
-use Rattle.grammar.specs.declared.SliceRule.{SliceRule}
+use Rattle.grammar.specs.Grammar.{StreamUnit, IsKind, Picture, Group, pictureUnits, groupUnits, IsHeader, IsDisplay, HeadExtra, DisplayUnit, FirstIsI, IsGroup, IsEnding}
+use Rattle.grammar.specs.Reader.{isKind}
 use Rattle.grammar.proofs.KindLaws.{apart}
 use Rattle.grammar.proofs.BodyLaws.{header-good}
+use Rattle.grammar.proofs.HeaderLaws.{OtherKind, tailOf, tail-other, ending-other}
 use Rattle.grammar.proofs.Division.{number-two, number-not-two}
 use Rattle.groups.specs.Groups.{GroupRecord, DisplayIs, GroupIs, NthGroup}
 use Rattle.groups.specs.Reader.{shown, inHead, displayIn, groupOf, beginsGroup, groupIn}
@@ -40,42 +39,15 @@ use Rattle.groups.proofs.WalkLaws.{past-other, past-group, this-group}
 abbrev NoHeader : StreamUnit → Type 0
 NoHeader u = beginsGroup u ≡ false
 
--- a unit of another kind
-other-kind : (k : Kind) (u : StreamUnit) → IsKind k u → sameKind k kind.SequenceHeader ≡ false → NoHeader u
-other-kind k u e d = ap (isKind kind.SequenceHeader) e ∙ d
+no-header : (u : StreamUnit) → OtherKind u → NoHeader u
+no-header u o = ap (isKind kind.SequenceHeader) (o .1) ∙ o .2
 
 skip-all : (g : ℕ) (us vs : List StreamUnit) → All NoHeader us → groupIn g (us ++ vs) ≡ groupIn g vs
 skip-all g [] vs h = refl
 skip-all g (u ∷ us) vs h = past-other u (us ++ vs) g (h .0) ∙ skip-all g us vs (h .1)
 
-head-no : (u : StreamUnit) → HeadExtra u → NoHeader u
-head-no u (inl c) = other-kind kind.UserData u c refl
-head-no u (inr h) = other-kind kind.Extension u (h .0) refl
-
-extra-no : (u : StreamUnit) → PictureExtra u → NoHeader u
-extra-no u (inl c) = other-kind kind.UserData u c refl
-extra-no u (inr h) = other-kind kind.Extension u (h .0) refl
-
-slice-no : (u : StreamUnit) → IsSlice u → NoHeader u
-slice-no u h = other-kind kind.Slice u (h .0) refl
-
-first-no : (u : StreamUnit) → IsPictureHead u → NoHeader u
-first-no u (inl c) = other-kind kind.IPicture u c refl
-first-no u (inr c) = other-kind kind.PBPicture u c refl
-
-picture-no : (rule : SliceRule) (p : Picture) → IsPicture rule p → All NoHeader (pictureUnits p)
-picture-no rule p h = (first-no (p .head) (h .kind), all-append NoHeader (p .extras) (p .slices) (all-map {P = PictureExtra} {Q = NoHeader} extra-no (p .extras) (h .extras)) (all-map {P = IsSlice} {Q = NoHeader} slice-no (p .slices) (h .slices)))
-
-pictures-no : (rule : SliceRule) (ps : List Picture) → All (IsPicture rule) ps → All NoHeader (concatMap pictureUnits ps)
-pictures-no rule [] h = tt
-pictures-no rule (p ∷ ps) h = all-append NoHeader (pictureUnits p) (concatMap pictureUnits ps) (picture-no rule p (h .0)) (pictures-no rule ps (h .1))
-
 ending-no : (e : List StreamUnit) → IsEnding e → All NoHeader e
-ending-no [] h = absurd h
-ending-no (e ∷ []) (inl h) = (other-kind kind.SequenceEnd e (h .0) refl, tt)
-ending-no (e ∷ []) (inr h) = (other-kind kind.EditCode e (h .0) refl, tt)
-ending-no (e ∷ f ∷ []) h = (other-kind kind.SequenceEnd e (h .0 .0) refl, (other-kind kind.EditCode f (h .1 .0) refl, tt))
-ending-no (e ∷ f ∷ g ∷ more) h = absurd h
+ending-no e h = all-map no-header e (ending-other e h)
 
 no-group : (g : ℕ) (us : List StreamUnit) → All NoHeader us → groupIn g us ≡ refused NO-ROW []
 unfolding groupIn
@@ -176,10 +148,10 @@ some-record group h = let d = some-display (group .extras) (h .extras) in (recor
 -- what follows the header of a group begins no group
 module _ (group : Group) (h : IsGroup group) (rest : List StreamUnit) where
   abbrev body : List StreamUnit
-  body = group .extras ++ concatMap pictureUnits (group .pictures)
+  body = tailOf group
 
   body-no : All NoHeader body
-  body-no = all-append NoHeader (group .extras) (concatMap pictureUnits (group .pictures)) (all-map {P = HeadExtra} {Q = NoHeader} head-no (group .extras) (h .extras)) (pictures-no (sliceRule (h .header)) (group .pictures) (h .pictures))
+  body-no = all-map no-header body (tail-other group h)
 
   heads : beginsGroup (group .head) ≡ true
   heads = ap (isKind kind.SequenceHeader) (h .kind)

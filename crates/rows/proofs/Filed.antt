@@ -1,19 +1,18 @@
 -- The rows that filing writes: the row at an index, and its body in the stream.
-use Prim.Native.Nat.{ℕ, suc, _+_, _≤_}
+use Prim.Native.Nat.{ℕ, _+_}
 use mathlib.Core.Path.{_≡_, refl, sym, ap, _∙_}
-use mathlib.Core.List.{List, [], _∷_, _++_, map, append-assoc}
-use mathlib.Core.Bool.{Bool, true, false, cond}
+use mathlib.Core.List.{List, [], _∷_, _++_}
+use mathlib.Core.Bool.{Bool, true, cond}
 use mathlib.Core.Option.{none, some}
 use native.Mathlib.Omega.{arith}
 use borrow.Author.Tests.{le-leb}
-use lib.Dec.{eqb}
 use lib.ListN.{length, take, drop, length-append}
 use lib.Seq.{take-append-le, drop-append-add}
 use Rattle.grammar.specs.Lists.{concatMap}
 use Rattle.grammar.specs.Grammar.{bytes, Reading, Reads}
-use Rattle.grammar.specs.Rows.{Row, Placed, placedUnits, kept, trimmed, isWhole, rowLength, rowsFrom, rows, words}
+use Rattle.grammar.specs.Rows.{Row, Placed, placedUnits, rowLength, rowsFrom, rows, words}
 use Rattle.grammar.proofs.Filing.{units-of-placed}
-use Rattle.grammar.proofs.RowLaws.{rows-length, length-le}
+use Rattle.grammar.proofs.RowLaws.{rows-length, length-le, bytesOf, bytes-append, concat-units, rowFor, rows-append}
 use Rattle.rows.specs.Rows.{heldRow, inStream, ifInStream, existing, isRow, rowExists, partOf, rowBody}
 
 pub filed-row : (before : List Row) (r : Row) (after : List Row) (rest : List ℕ) → heldRow (words (before ++ r ∷ after) ++ rest) (length before) ≡ some r
@@ -21,39 +20,16 @@ unfolding heldRow
 filed-row [] r after rest = refl
 filed-row (b ∷ before) r after rest = filed-row before r after rest
 
--- ── the rows of units ──
-
-abbrev bytesOf : List Placed → List ℕ
-bytesOf ps = concatMap (λ (p : Placed). bytes (p .unit)) ps
-
-abbrev rowFor : ℕ → Placed → Row
-rowFor at p = record { code = p .unit .code; offset = at; length = rowLength p }
-
--- a unit's offset is the number of bytes in the units before it
-rows-split : (at : ℕ) (before : List Placed) (p : Placed) (after : List Placed) (o : ℕ) → o ≡ at + length (bytesOf before)
-    → (rs : List Row) × (rowsFrom at (before ++ p ∷ after) ≡ rowsFrom at before ++ rowFor o p ∷ rs)
-rows-split at [] p after o e =
-    let f : at ≡ o = omega arith in
-    let rs = rowsFrom (at + length (bytes (p .unit))) after in
-    (rs, ap (λ (x : ℕ). rowFor x p ∷ rs) f)
-rows-split at (b ∷ before) p after o e =
-    let l = length-append (bytes (b .unit)) (bytesOf before) in
-    let r = rows-split (at + length (bytes (b .unit))) before p after o (omega arith) in
-    (r .0, ap (λ (rs : List Row). rowFor at b ∷ rs) (r .1))
-
-bytes-split : (before : List Placed) (p : Placed) (after : List Placed) → bytesOf (before ++ p ∷ after) ≡ bytesOf before ++ (bytes (p .unit) ++ bytesOf after)
-bytes-split [] p after = refl
-bytes-split (b ∷ before) p after = ap (λ (l : List ℕ). bytes (b .unit) ++ l) (bytes-split before p after) ∙ simp append-assoc
-
 -- ── the body of a unit's row ──
 
 held-unit : (before : List Placed) (p : Placed) (after : List Placed) (rest : List ℕ)
     → heldRow (words (rowsFrom 0 (before ++ p ∷ after)) ++ rest) (length before) ≡ some (rowFor (length (bytesOf before)) p)
 held-unit before p after rest =
-    let r = rows-split 0 before p after (length (bytesOf before)) (omega arith) in
-    ap (λ (rs : List Row). heldRow (words rs ++ rest) (length before)) (r .1)
-    ∙ ap (heldRow (words (rowsFrom 0 before ++ rowFor (length (bytesOf before)) p ∷ r .0) ++ rest)) (sym (rows-length 0 before))
-    ∙ filed-row (rowsFrom 0 before) (rowFor (length (bytesOf before)) p) (r .0) rest
+    let at = length (bytesOf before) in
+    let rs = rowsFrom (at + length (bytes (p .unit))) after in
+    ap (λ (rs : List Row). heldRow (words rs ++ rest) (length before)) (rows-append 0 before (p ∷ after) at (omega arith))
+    ∙ ap (heldRow (words (rowsFrom 0 before ++ rowFor at p ∷ rs) ++ rest)) (sym (rows-length 0 before))
+    ∙ filed-row (rowsFrom 0 before) (rowFor at p) rs rest
 
 row-inside : (b : List ℕ) (p : Placed) (a : List ℕ) → inStream (b ++ (bytes (p .unit) ++ a)) (rowFor (length b) p) ≡ true
 unfolding inStream
@@ -73,11 +49,7 @@ existing-unit before p after rest =
     let r = rowFor (length (bytesOf before)) p in
     let s = bytesOf (before ++ p ∷ after) in
     ap (ifInStream s) (held-unit before p after rest)
-    ∙ ap (λ (t : Bool). cond t (some r) none) (ap (λ (l : List ℕ). inStream l r) (bytes-split before p after) ∙ row-inside (bytesOf before) p (bytesOf after))
-
-concat-units : (ps : List Placed) → concatMap bytes (map (λ (p : Placed). p .unit) ps) ≡ bytesOf ps
-concat-units [] = refl
-concat-units (p ∷ ps) = ap (λ (l : List ℕ). bytes (p .unit) ++ l) (concat-units ps)
+    ∙ ap (λ (t : Bool). cond t (some r) none) (ap (λ (l : List ℕ). inStream l r) (bytes-append before (p ∷ after)) ∙ row-inside (bytesOf before) p (bytesOf after))
 
 stream-of : (stream : List ℕ) (r : Reading) → Reads stream r → bytesOf (placedUnits r) ≡ stream
 stream-of stream r h = sym (concat-units (placedUnits r)) ∙ ap (concatMap bytes) (units-of-placed r) ∙ h .stream-is
@@ -92,6 +64,6 @@ filed-body stream r h before p after e rest =
     ∙ existing-unit before p after rest in (
       ap isRow x,
       ap (partOf stream) x
-          ∙ ap (λ (l : List ℕ). take (rowLength p) (drop (length (bytesOf before) + 4) l)) (s ∙ bytes-split before p after)
+          ∙ ap (λ (l : List ℕ). take (rowLength p) (drop (length (bytesOf before) + 4) l)) (s ∙ bytes-append before (p ∷ after))
           ∙ body-inside (bytesOf before) p (bytesOf after),
     )
