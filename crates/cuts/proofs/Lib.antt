@@ -1,0 +1,4 @@
+pub mod RestLaws
+pub mod PlaceLaws
+pub mod FilingLaws
+pub mod Main
