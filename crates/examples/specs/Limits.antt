@@ -5,7 +5,7 @@ use Prim.Native.Nat.{ℕ, zero, suc, _*_, _+_, _/_, _%_, _^_}
 use mathlib.Core.List.{List, [], _∷_, _++_, map}
 use mathlib.Core.Bool.{cond}
 use lib.IntN.{ℤ, pos, negℤ}
-use lib.ListN.{length, take, replicate}
+use lib.ListN.{length, take, drop, replicate}
 use Rattle.answers.specs.Answers.{Outcome, done, refused, mapDone, NO-CODE, CUT, OVERLAP, UNKNOWN, OUT-OF-PLACE, SHORT, MARKER, VALUE, STUFFING, TWICE, UNENDED, FULL, TOO-LONG, PAYLOAD-OUT, BAD-STATE, NO-ROW, VALUE-WIDTH, VALUE-HEIGHT, VALUE-CHROMA, VALUE-PRECISION, VALUE-ASPECT, VALUE-RATE, VALUE-TRANSFER, VALUE-MATRIX, VALUE-STEREO, VALUE-COPYRIGHT-OWNER, VALUE-COPYRIGHT-NUMBER, VALUE-SLICE-ORDER, VALUE-SLICE-ROW}
 use Rattle.answers.specs.Limits.{longestStream, longestPayload, mostBits}
 use Rattle.answers.specs.Missing.{payloadOut, missingIn}
@@ -714,6 +714,23 @@ bitLimits =
     ∷ groupIs (afterGroup (group (picture ++ slice 0x44))) 5 gives refused VALUE-SLICE-ROW (at 53 ++ bit 0)
     ∷ []
 
+-- ── document 02, E12: what follows a B0 start code is filed, and what follows any other place is not ──
+
+-- two groups; the first has user data with zeros at its end, and the second, at byte 36, has B1 then B7 after it
+abbrev pub cutAt : ℕ → List ℕ
+cutAt n = drop n (group (userData (0x41 ∷ 0 ∷ 0 ∷ []) ++ picture ++ slice 0 ++ group (picture ++ slice 0 ++ sequenceEnd ++ editCode)))
+
+abbrev pub cutLimits : List Example
+cutLimits =
+    rowsOf (cutAt 0) gives done (176 ∷ 0 ∷ 15 ∷ 178 ∷ 19 ∷ 3 ∷ 179 ∷ 26 ∷ 1 ∷ 0 ∷ 31 ∷ 1 ∷ 176 ∷ 36 ∷ 15 ∷ 179 ∷ 55 ∷ 1 ∷ 0 ∷ 60 ∷ 1 ∷ 177 ∷ 65 ∷ 0 ∷ 183 ∷ 69 ∷ 0 ∷ [])
+    ∷ rowsOf (cutAt 36) gives done (176 ∷ 0 ∷ 15 ∷ 179 ∷ 19 ∷ 1 ∷ 0 ∷ 24 ∷ 1 ∷ 177 ∷ 29 ∷ 0 ∷ 183 ∷ 33 ∷ 0 ∷ [])
+    -- beside them, at a code byte, at zeros before a start code, at the stream's end and past it
+    ∷ statuses (λ n. filing (cutAt n)) (1 ∷ 3 ∷ 24 ∷ 25 ∷ 35 ∷ 37 ∷ 38 ∷ 39 ∷ 72 ∷ 73 ∷ 74 ∷ []) gives done (1 ∷ 1 ∷ 1 ∷ 1 ∷ 1 ∷ 1 ∷ 1 ∷ 1 ∷ 1 ∷ 1 ∷ 1 ∷ [])
+    -- at the start codes of user data, pictures, slices, B1 and B7
+    ∷ statuses (λ n. filing (cutAt n)) (19 ∷ 26 ∷ 31 ∷ 55 ∷ 60 ∷ 65 ∷ 69 ∷ []) gives done (5 ∷ 5 ∷ 5 ∷ 5 ∷ 5 ∷ 5 ∷ 5 ∷ [])
+    ∷ counted (cutAt 65) gives refused OUT-OF-PLACE (at 0)
+    ∷ []
+
 -- ── "Escape removal" and Exp-Golomb numbers ──
 
 abbrev pub payloadLimits : List Example
@@ -927,4 +944,4 @@ slips =
 -- ── the list ──
 
 abbrev pub limits : List Example
-limits = numberLimits ++ unitLimits ++ headerLimits ++ extensionLimits ++ grammarLimits ++ bitLimits ++ payloadLimits ++ binLimits ++ slips
+limits = numberLimits ++ unitLimits ++ headerLimits ++ extensionLimits ++ grammarLimits ++ bitLimits ++ cutLimits ++ payloadLimits ++ binLimits ++ slips
