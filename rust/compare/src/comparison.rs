@@ -294,18 +294,53 @@ impl<'a> Comparison<'a> {
         let asked = wrappers.iter().enumerate().filter(|(i, _)| for_all || *i == turn);
         for decoder in [library].into_iter().chain(asked.map(|(_, wrapper)| *wrapper)) {
             let answered = call(decoder);
-            if answered != expected {
-                self.report.differing(question);
-                self.report.difference(|| Difference {
-                    what: format!("{}, {}", question.name(), with()),
-                    sides: [
-                        (reference.name, expected.show(&answered)),
-                        (decoder.name, answered.show(&expected)),
-                    ],
-                });
-            }
+            self.hold(question, with, (reference.name, &expected), (decoder.name, &answered));
         }
         expected
+    }
+
+    /// Holds an answer to another, each with whose it is.
+    fn hold<T: Answered>(
+        &mut self,
+        question: Question,
+        with: With,
+        expected: (&'static str, &T),
+        answered: (&'static str, &T),
+    ) {
+        if answered.1 == expected.1 {
+            return;
+        }
+        self.report.differing(question);
+        self.report.difference(|| Difference {
+            what: format!("{}, {}", question.name(), with()),
+            sides: [
+                (expected.0, expected.1.show(answered.1)),
+                (answered.0, answered.1.show(expected.1)),
+            ],
+        });
+    }
+
+    /// Asks all decoders, and holds them to an answer that comes from elsewhere; answers what the independent one does.
+    pub fn ask_for<T: Answered>(
+        &mut self,
+        question: Question,
+        with: With,
+        expected: (&'static str, &T),
+        call: impl Fn(&Decoder) -> T,
+    ) -> T {
+        let answered = self.ask(question, with, call);
+        self.hold(question, with, expected, (self.decoders.reference.name, &answered));
+        answered
+    }
+
+    /// Counts a place at which a recording was cut.
+    pub fn cut(&mut self, place: &'static str, filed: bool) {
+        self.report.cut(place, filed);
+    }
+
+    /// Counts a recording that was cut, with its B0 start codes.
+    pub fn cut_all(&mut self, headers: usize) {
+        self.report.cut_all(headers);
     }
 
     /// Asks of a payload's bits; the bits that were missing are counted by how it was read.

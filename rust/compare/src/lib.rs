@@ -4,6 +4,7 @@
 mod bins;
 mod bodies;
 mod comparison;
+mod cuts;
 mod decoder;
 mod fields;
 mod inputs;
@@ -23,7 +24,7 @@ pub use comparison::Decoders;
 pub use decoder::Decoder;
 pub use library::LIBRARY;
 pub use reference::REFERENCE;
-pub use report::Report;
+pub use report::{Cuts, Report};
 pub use wrapped::{RECORDING, WRAPPED};
 
 /// The library and the safe crate against the independent decoder.
@@ -37,7 +38,7 @@ pub const DECODERS: Decoders = Decoders {
 #[derive(Debug, Clone, Copy)]
 pub struct Plan {
     pub seed: u64,
-    /// How many random inputs; the exhaustive ones come on top.
+    /// How many random inputs; the exhaustive ones, and a quarter as many cuts of random recordings, come on top.
     pub count: u32,
     /// Shorter exhaustive lists, and no input that takes long to read.
     pub small: bool,
@@ -75,6 +76,8 @@ pub fn run(plan: &Plan, decoders: Decoders) -> Report {
         let mut random = Random::new(seeds.word());
         stage(&mut comparison, &mut random, u64::from(plan.count) * share / 100);
     }
+    let mut random = Random::new(seeds.word());
+    cuts::generated(&mut comparison, &mut random, u64::from(plan.count) / 4);
     comparison.finish()
 }
 
@@ -94,5 +97,8 @@ fn exhaustive(comparison: &mut Comparison, small: bool) {
     bins::all_contexts(comparison, if small { 61 } else { 1 });
     slices::of_all_heights(comparison, heights);
     slices::of_two(comparison);
+    // Each ending and each filling are among every third, too.
+    let (groups, step) = if small { (2, 3) } else { (4, 1) };
+    cuts::at_all_places(comparison, groups, step);
     fields::of_all_layouts(comparison, !small);
 }

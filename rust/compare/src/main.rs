@@ -7,7 +7,8 @@ use compare::{run, Plan, DECODERS};
 
 const USAGE: &str = "usage: compare [--seed S] [--count N] [--small]
   --seed S   the seed of the random inputs (1)
-  --count N  how many random inputs there are beside the exhaustive ones (120000, or 2000 with --small)
+  --count N  how many random inputs there are beside the exhaustive ones (120000, or 2000 with --small); a quarter as many cuts
+             of random recordings come on top
   --small    shorter exhaustive lists, and nothing that takes long under a memory checker";
 const SEED: u64 = 1;
 const COUNT: u32 = 120_000;

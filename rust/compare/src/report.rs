@@ -82,6 +82,13 @@ struct Kept {
     input: String,
 }
 
+/// Cuts at places of one kind.
+#[derive(Debug, Clone, Copy, Default, PartialEq)]
+pub struct Cuts {
+    pub asked: u64,
+    pub filed: u64,
+}
+
 #[derive(Debug, Clone)]
 pub struct Report {
     pub inputs: u64,
@@ -95,6 +102,11 @@ pub struct Report {
     missing: BTreeMap<(usize, u32, Ordering, Ordering), u64>,
     /// How often so many numbers were handed over, by question and count.
     handed_over: BTreeMap<(usize, usize), u64>,
+    /// How many recordings were cut at every place, and how many B0 start codes they have.
+    recordings_cut: u64,
+    headers_cut: u64,
+    /// At which places, each with how many were cut there and how many of these cuts were filed.
+    cuts: BTreeMap<&'static str, Cuts>,
     kept: Vec<Kept>,
 }
 
@@ -108,6 +120,9 @@ impl Report {
             carried: BTreeMap::new(),
             missing: BTreeMap::new(),
             handed_over: BTreeMap::new(),
+            recordings_cut: 0,
+            headers_cut: 0,
+            cuts: BTreeMap::new(),
             kept: Vec::new(),
         }
     }
@@ -155,6 +170,29 @@ impl Report {
     pub fn counts(&self, question: &str) -> Vec<usize> {
         let counts = self.handed_over.keys().filter(|(q, _)| QUESTIONS[*q] == question);
         counts.map(|&(_, count)| count).collect()
+    }
+
+    /// Counts a cut at a place.
+    pub(crate) fn cut(&mut self, place: &'static str, filed: bool) {
+        let cuts = self.cuts.entry(place).or_default();
+        cuts.asked += 1;
+        cuts.filed += u64::from(filed);
+    }
+
+    /// Counts a recording that was cut at every place, with its B0 start codes.
+    pub(crate) fn cut_all(&mut self, headers: usize) {
+        self.recordings_cut += 1;
+        self.headers_cut += headers as u64;
+    }
+
+    /// The cuts by the places that they were made at.
+    pub fn cuts(&self) -> &BTreeMap<&'static str, Cuts> {
+        &self.cuts
+    }
+
+    /// The B0 start codes of the recordings that were cut.
+    pub fn headers_cut(&self) -> u64 {
+        self.headers_cut
     }
 
     /// How often an answer was met by all questions together.
@@ -261,12 +299,27 @@ fn missing_bits(f: &mut fmt::Formatter, report: &Report) -> fmt::Result {
     writeln!(f)
 }
 
+/// Where recordings were cut, and how many cuts were filed.
+fn cuts(f: &mut fmt::Formatter, report: &Report) -> fmt::Result {
+    line(f, "cut at", ["cuts", "filed"].iter().map(|name| name.to_string()))?;
+    for (place, cuts) in &report.cuts {
+        line(f, place, [cuts.asked, cuts.filed].iter().copied().map(shown))?;
+    }
+    let filed: u64 = report.cuts.values().map(|cuts| cuts.filed).sum();
+    writeln!(
+        f,
+        "{} recordings cut at every place: {} cuts filed, of {} B0 start codes\n",
+        report.recordings_cut, filed, report.headers_cut
+    )
+}
+
 impl fmt::Display for Report {
     fn fmt(&self, f: &mut fmt::Formatter) -> fmt::Result {
         let questions: Vec<usize> = (0..QUESTIONS.len()).collect();
         questions.chunks(COLUMNS).try_for_each(|some| table(f, self, some))?;
         bits(f, self)?;
         missing_bits(f, self)?;
+        cuts(f, self)?;
         for (&(q, count), times) in &self.handed_over {
             writeln!(f, "{:<16} {:>2} numbers handed over {:>8} times", QUESTIONS[q], count, times)?;
         }

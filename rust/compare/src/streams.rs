@@ -59,7 +59,7 @@ fn questions(comparison: &mut Comparison, random: &mut Random, stream: &[u8]) {
 }
 
 /// How many start codes there are: a good stream has as many units.
-fn start_codes(stream: &[u8]) -> usize {
+pub(crate) fn start_codes(stream: &[u8]) -> usize {
     stream.windows(3).filter(|three| *three == [0, 0, 1]).count()
 }
 

@@ -1,6 +1,7 @@
 //! Deterministic inputs for a comparison of two decoders. Nothing here calls this package's own decoder.
 
 mod bodies;
+mod cuts;
 mod damage;
 mod fields;
 mod payloads;
@@ -10,6 +11,7 @@ mod recording;
 use std::ops::RangeInclusive;
 
 pub use bodies::{extension_body, header_body};
+pub use cuts::recordings_to_cut;
 pub use damage::damaged;
 pub use fields::{judged_bodies, streams_with, Body};
 pub use payloads::{
