@@ -1,33 +1,28 @@
 -- What filing answers of what is left.
 use Prim.Native.Nat.{ℕ, _*_, _≤_}
 use mathlib.Core.Path.{_≡_, refl, sym, _∙_, ap}
-use mathlib.Core.Logic.{_⊎_, inl, inr}
 use mathlib.Core.List.{List, []}
 use native.Mathlib.Omega.{arith}
-use lib.Dec.{ltb}
 use lib.ListN.{length, drop, length-drop}
-use borrow.Author.Tests.{ltb-true, ltb-false}
 use Rattle.answers.specs.Answers.{done}
 use Rattle.answers.specs.Limits.{longestStream}
 use Rattle.answers.specs.Results.{good}
-use Rattle.bits.proofs.TestLaws.{by-test}
 use Rattle.grammar.specs.Grammar.{Reading, Reads, units}
 use Rattle.grammar.specs.Rows.{placedUnits, rowsFrom, rows}
 use Rattle.grammar.specs.Reader.{stopAt, walk, said, filingInto}
 use Rattle.grammar.specs.Refusals.{Refuses, no-code}
 use Rattle.grammar.specs.declared.Reason.{Reason}
 use Rattle.grammar.specs.declared.Reason.the-variants as reason
-use Rattle.grammar.proofs.Main.{walked-iff, stopped-iff}
+use Rattle.grammar.proofs.Main.{walked-iff}
 use Rattle.grammar.proofs.RowLaws.{rows-length, units-length}
 use Rattle.filing.specs.Filing.{totals, FiledByReading}
 use Rattle.filing.specs.Reader.{filed}
 use Rattle.filing.specs.declared.Totals.{Totals}
 use Rattle.filing.specs.declared.FilingAnswer.{FilingAnswer}
 use Rattle.filing.specs.declared.FilingAnswer.the-variants as answer
-use Rattle.filing.proofs.Demand.{walk-long, into-good, into-bad}
+use Rattle.filing.proofs.Demand.{into-good, into-bad}
 use Rattle.cuts.specs.Cuts.{FiledAs, RefusedAs}
 use Rattle.cuts.specs.Reader.{FiledWith, RefusedFor}
-use Rattle.cuts.proofs.PlaceLaws.{Elsewhere, stops}
 
 -- ── by the computations ──
 
@@ -45,28 +40,13 @@ read-filed s q h short lent room =
       totals = ap (said totals) i ∙ ap (λ (j : ℕ). done (record { units = j })) m;
     }
 
-stopped-refused : (s : List ℕ) (why : Reason) → walk s ≡ stopAt why 0 → RefusedFor s why
+pub stopped-refused : (s : List ℕ) (why : Reason) → walk s ≡ stopAt why 0 → RefusedFor s why
 unfolding filed filingInto
 stopped-refused s why e = record {
   checked = ap (said length) e;
   rows = λ lent. ap (said (rowsFrom 0)) (into-bad s lent _ e);
   totals = λ lent. ap (said totals) (into-bad s lent _ e);
 }
-
--- what begins no group is refused at its first byte
-abbrev RefusedAtOnce : List ℕ → Type 0
-RefusedAtOnce s = (why : Reason) × Refuses s why 0 × RefusedFor s why × ((why ≡ reason.TooLong) ⊎ (why ≡ reason.NoCode) ⊎ (why ≡ reason.OutOfPlace))
-
-at-once : (s : List ℕ) (why : Reason) → walk s ≡ stopAt why 0 → (why ≡ reason.TooLong) ⊎ (why ≡ reason.NoCode) ⊎ (why ≡ reason.OutOfPlace) → RefusedAtOnce s
-at-once s why e which = (why, stopped-iff s why 0 .0 e, stopped-refused s why e, which)
-
-pub elsewhere-refused : (s : List ℕ) → Elsewhere s → RefusedAtOnce s
-elsewhere-refused s e = by-test (ltb longestStream (length s))
-    (λ t. at-once s reason.TooLong (walk-long s (ltb-true _ _ t)) (inl refl))
-    (λ f. elim (stops s e (ltb-false _ _ f)) [
-      | inl w ↦ at-once s reason.NoCode w (inr (inl refl))
-      | inr w ↦ at-once s reason.OutOfPlace w (inr (inr refl))
-    ])
 
 -- ── by the promise of `file` ──
 

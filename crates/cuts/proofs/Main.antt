@@ -12,12 +12,12 @@ use Rattle.grammar.specs.Rows.{Row, rows}
 use Rattle.grammar.specs.Refusals.{HasCode, Refuses}
 use Rattle.grammar.specs.declared.Reason.{Reason}
 use Rattle.grammar.specs.declared.Reason.the-variants as reason
-use Rattle.grammar.proofs.Main.{same-reading}
+use Rattle.grammar.proofs.Main.{same-reading, stopped-iff}
 use Rattle.filing.specs.Filing.{FiledByReading}
 use Rattle.filing.specs.declared.Totals.{Totals}
 use Rattle.filing.specs.declared.FilingAnswer.{FilingAnswer}
 use Rattle.filing.specs.declared.FilingAnswer.the-variants as answer
-use Rattle.cuts.specs.Cuts.{StartAt, HeaderAt, CutAt, rest, rowsFromCut, rowsLeft, FiledAs, RefusedAs}
+use Rattle.cuts.specs.Cuts.{StartAt, HeaderAt, CutAt, rest, rowsFromCut, rowsLeft, AtOnce, FiledAs, RefusedAs}
 use Rattle.cuts.specs.Reader.{FiledWith, RefusedFor}
 use Rattle.cuts.proofs.RestLaws as left
 use Rattle.cuts.proofs.PlaceLaws as places
@@ -67,12 +67,14 @@ elsewhere-unread stream r n h other = elim (places.place-of stream r n h) [
   | inr e ↦ places.none-read (drop n stream) e
 ]
 
--- It is refused at offset 0, whatever is lent: over the limit, with no start code there, or else OUT OF PLACE.
-pub elsewhere-refused : (stream : List ℕ) (r : Reading) (n : ℕ) → Reads stream r → ¬ CutAt r n →
-    (why : Reason) × Refuses (drop n stream) why 0 × RefusedFor (drop n stream) why × ((why ≡ reason.TooLong) ⊎ (why ≡ reason.NoCode) ⊎ (why ≡ reason.OutOfPlace))
+-- It is refused at offset 0, whatever is lent: TOO LONG over the limit, NO CODE where no 00 00 01 stands there, else OUT OF PLACE.
+pub elsewhere-refused : (stream : List ℕ) (r : Reading) (n : ℕ) → Reads stream r → ¬ CutAt r n → (why : Reason) × AtOnce why × Refuses (drop n stream) why 0 × RefusedFor (drop n stream) why
 elsewhere-refused stream r n h other = elim (places.place-of stream r n h) [
   | inl c ↦ absurd (other c)
-  | inr e ↦ files.elsewhere-refused (drop n stream) e
+  | inr e ↦
+      let s = drop n stream in
+      let k = places.stops s e in
+      (k .0, k .1, stopped-iff s (k .0) 0 .0 (k .2), files.stopped-refused s (k .0) (k .2))
 ]
 
 -- Nothing follows the end, so that is NO CODE.

@@ -5,8 +5,10 @@ use mathlib.Core.Logic.{_≢_, _⊎_, inl, inr}
 use mathlib.Core.List.{List, [], _∷_, _++_, map, append-assoc, append-nil, cons-ne-nil}
 use mathlib.Core.Bool.{Bool, cond}
 use native.Mathlib.Omega.{arith}
+use lib.Dec.{ltb}
 use lib.ListN.{length, take, drop, take-append-drop, length-drop}
 use lib.Seq.{length-take-le}
+use borrow.Author.Tests.{ltb-true, ltb-false}
 use Rattle.answers.specs.Answers.{Outcome}
 use Rattle.answers.specs.Limits.{longestStream}
 use Rattle.bits.specs.Lists.{All}
@@ -21,6 +23,7 @@ use Rattle.grammar.specs.Reader.{Cut, headerStep, table, choose, byKind, step, 
 use Rattle.grammar.specs.Refusals.{HasCode, no-code}
 use Rattle.grammar.specs.declared.State.the-variants.{Start}
 use Rattle.grammar.specs.declared.Step.the-variants.{Stop as stop}
+use Rattle.grammar.specs.declared.Reason.{Reason}
 use Rattle.grammar.specs.declared.Reason.the-variants as reason
 use Rattle.grammar.proofs.KindLaws.{apart, header-code}
 use Rattle.grammar.proofs.CutLaws.{chunk, cut-units}
@@ -29,8 +32,8 @@ use Rattle.grammar.proofs.HeaderLaws.{OtherKind, tailOf, tail-other, ending-oth
 use Rattle.grammar.proofs.StartLaws.{prefix-starts}
 use Rattle.grammar.proofs.RefusalsOfBytes.{begins-iff, not-begins-iff}
 use Rattle.grammar.proofs.Main.{stopped-iff}
-use Rattle.filing.proofs.Demand.{walk-short}
-use Rattle.cuts.specs.Cuts.{CutAt, StartAt, HeaderAt, rest}
+use Rattle.filing.proofs.Demand.{walk-long, walk-short}
+use Rattle.cuts.specs.Cuts.{StartAt, HeaderAt, CutAt, rest, AtOnce}
 use Rattle.cuts.proofs.RestLaws.{bytes-left, units-divided, cut-reads}
 
 -- ── a 00 00 01 stands at a unit's start ──
@@ -155,6 +158,11 @@ walk-other : (u : StreamUnit) (us : List StreamUnit) → All Alone (u ∷ us) �
 unfolding walkOfAny begins
 walk-other u us a o = ap (λ (c : Cut). walkFrom (c .chunks) Start 0) (cut-units (u ∷ us) a) ∙ chunks-other u (map chunk us) o
 
-pub stops : (left : List ℕ) → Elsewhere left → length left ≤ longestStream → (walk left ≡ stopAt reason.NoCode 0) ⊎ (walk left ≡ stopAt reason.OutOfPlace 0)
-stops left (no-start none) short = inl (stopped-iff left reason.NoCode 0 .1 (no-code short none refl refl))
-stops left (other-unit u us e a o) short = inr (walk-short left short ∙ ap walkOfAny e ∙ walk-other u us a o)
+stops-short : (left : List ℕ) → Elsewhere left → length left ≤ longestStream → (why : Reason) × AtOnce why × (walk left ≡ stopAt why 0)
+stops-short left (no-start none) short = (reason.NoCode, inr (inl refl), stopped-iff left reason.NoCode 0 .1 (no-code short none refl refl))
+stops-short left (other-unit u us e a o) short = (reason.OutOfPlace, inr (inr refl), walk-short left short ∙ ap walkOfAny e ∙ walk-other u us a o)
+
+pub stops : (left : List ℕ) → Elsewhere left → (why : Reason) × AtOnce why × (walk left ≡ stopAt why 0)
+stops left e = by-test (ltb longestStream (length left))
+    (λ t. (reason.TooLong, inl refl, walk-long left (ltb-true _ _ t)))
+    (λ f. stops-short left e (ltb-false _ _ f))

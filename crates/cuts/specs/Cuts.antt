@@ -1,12 +1,16 @@
 -- Document 02, E12: "drop everything before any of its B0 start codes".
-use Prim.Native.Nat.{ℕ, _-_, _*_}
+use Prim.Native.Nat.{ℕ, _-_}
 use mathlib.Core.Path.{_≡_}
-use mathlib.Core.Logic.{_≢_}
+use mathlib.Core.Logic.{_≢_, _⊎_}
 use mathlib.Core.List.{List, [], _∷_, _++_, map}
 use lib.ListN.{length, drop}
+use Rattle.answers.specs.Answers.{done}
 use Rattle.grammar.specs.Lists.{concatMap}
 use Rattle.grammar.specs.Grammar.{StreamUnit, bytes, Group, Reading, groupUnits}
-use Rattle.grammar.specs.Rows.{Row, rows, words}
+use Rattle.grammar.specs.Rows.{Row, rows}
+use Rattle.grammar.specs.declared.Reason.{Reason}
+use Rattle.grammar.specs.declared.Reason.the-variants as reason
+use Rattle.filing.specs.Filing.{wordsAfter}
 use Rattle.filing.specs.declared.Refusal.{Refusal}
 use Rattle.filing.specs.declared.FilingAnswer.{FilingAnswer}
 use Rattle.filing.specs.declared.FilingAnswer.the-variants as answer
@@ -39,11 +43,11 @@ pub record CutAt (r : Reading) (n : ℕ) : Type 0 where
 abbrev pub rest : (r : Reading) {n : ℕ} → CutAt r n → Reading
 rest r c = record { groups = c .after; ending = r .ending }
 
--- the rows from there on
+-- the rows from that unit on
 abbrev pub rowsFromCut : (r : Reading) {n : ℕ} → CutAt r n → List Row
 rowsFromCut r c = drop (length (concatMap groupUnits (c .before))) (rows r)
 
--- "each offset less by what was dropped"
+-- a row with n less in its offset
 abbrev pub less : ℕ → Row → Row
 less n row = record { code = row .code; offset = row .offset - n; length = row .length }
 
@@ -51,11 +55,15 @@ less n row = record { code = row .code; offset = row .offset - n; length = row .
 abbrev pub rowsLeft : (r : Reading) {n : ℕ} → CutAt r n → List Row
 rowsLeft r {n} c = map (less n) (rowsFromCut r c)
 
--- ── what `file` answers, and the words after it ──
+-- ── what filing answers ──
+
+-- what any other place is refused for: over the limit, no 00 00 01 there, or a unit there that begins no group
+abbrev pub AtOnce : Reason → Type 0
+AtOnce why = (why ≡ reason.TooLong) ⊎ (why ≡ reason.NoCode) ⊎ (why ≡ reason.OutOfPlace)
 
 -- filed, with these rows in the first of the words lent
 abbrev pub FiledAs : List Row → List ℕ → List ℕ → FilingAnswer → Type 0
-FiledAs rs lent after a = (a ≡ answer.Filed (record { units = length rs })) × (after ≡ words rs ++ drop (3 * length rs) lent)
+FiledAs rs lent after a = (a ≡ answer.Filed (record { units = length rs })) × (after ≡ wordsAfter (done rs) lent)
 
 -- refused, with all words as they were
 abbrev pub RefusedAs : List ℕ → List ℕ → FilingAnswer → Type 0
