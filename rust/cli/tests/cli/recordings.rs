@@ -418,3 +418,29 @@ fn the_body_of_a_unit() {
     let ran = avsplus_reading(&["body", "-", "1"], &stream);
     assert_eq!(ran.output, long);
 }
+
+/// Code, offset and length of each unit that a line of the shell prints.
+fn units_of(line: &str) -> Vec<[i64; 3]> {
+    let json = shell(line).json();
+    let numbers = |unit: &Json| ["code", "offset", "length"].map(|name| unit.get(name).number());
+    json.get("units").list().iter().map(numbers).collect()
+}
+
+/// What follows a sequence header's start code is a recording, too, with the units from there on; one byte beside it there is none.
+#[test]
+fn a_recording_is_cut_at_a_sequence_header() {
+    let name = written("cut.avs", &two_groups());
+    let whole = units_of(&format!("$A units --json '{}'", name));
+    let first = whole.iter().rposition(|unit| unit[0] == 0xB0).unwrap();
+    let dropped = whole[first][1];
+    let left = units_of(&format!("tail -c +{} '{}' | $A units --json -", dropped + 1, name));
+    let expected = whole[first..]
+        .iter()
+        .map(|&[code, offset, length]| [code, offset - dropped, length]);
+    assert!(first > 0 && left.iter().copied().eq(expected), "{:?}", left);
+    for beside in [dropped, dropped + 2] {
+        let ran = shell(&format!("tail -c +{} '{}' | $A file -", beside, name));
+        assert_eq!(ran.status, 1);
+        assert!(ran.text().starts_with("answer: NO CODE (1) at byte 0\n"), "{}", ran.text());
+    }
+}
