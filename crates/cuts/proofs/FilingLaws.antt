@@ -14,7 +14,7 @@ use Rattle.grammar.specs.Refusals.{Refuses, no-code}
 use Rattle.grammar.specs.declared.Reason.{Reason}
 use Rattle.grammar.specs.declared.Reason.the-variants as reason
 use Rattle.grammar.proofs.Main.{walked-iff}
-use Rattle.grammar.proofs.RowLaws.{rows-length, units-length}
+use Rattle.grammar.proofs.RowLaws.{rows-length}
 use Rattle.filing.specs.Filing.{totals, FiledByReading}
 use Rattle.filing.specs.Reader.{filed}
 use Rattle.filing.specs.declared.Totals.{Totals}
@@ -23,6 +23,7 @@ use Rattle.filing.specs.declared.FilingAnswer.the-variants as answer
 use Rattle.filing.proofs.Demand.{into-good, into-bad}
 use Rattle.cuts.specs.Cuts.{FiledAs, RefusedAs}
 use Rattle.cuts.specs.Reader.{FiledWith, RefusedFor}
+use Rattle.cuts.proofs.RestLaws.{rows-count}
 
 -- ── by the computations ──
 
@@ -53,7 +54,7 @@ stopped-refused s why e = record {
 pub read-file : (s : List ℕ) (q : Reading) → Reads s q → length s ≤ longestStream → (lent after : List ℕ) (a : FilingAnswer) → FiledByReading s lent after a → 3 * length (rows q) ≤ length lent →
     FiledAs (rows q) lent after a
 read-file s q h short lent after a p room =
-    let e : length (units q) ≡ length (rows q) = sym (rows-length 0 (placedUnits q) ∙ units-length q) in
+    let e : length (units q) ≡ length (rows q) = sym (rows-count q) in
     let f = p .filed (length (rows q)) .1 (short, (q, h, e), room) in
     (f, p .rows (length (rows q)) f q h)
 
@@ -73,10 +74,10 @@ pub enough : (stream lent after : List ℕ) (t : Totals) → FiledByReading stre
 enough stream lent after t p r h m l =
     let k = p .filed (t .units) .0 refl in
     let u : length (units r) ≡ t .units = ap (λ (y : Reading). length (units y)) (p .one r (k .1 .0) h (k .1 .1)) ∙ k .1 .2 in
-    let c = rows-length 0 (placedUnits r) ∙ units-length r in
+    let c = rows-count r in
     let room = k .2 in
     omega arith
 
--- nothing is no stream
+-- where nothing is left there is no 00 00 01
 pub nothing-refused : Refuses [] reason.NoCode 0
 nothing-refused = no-code (omega arith) (λ h. let e = h .1 in let z : _≡_ {A = ℕ} 0 1 = cc in omega arith) refl refl

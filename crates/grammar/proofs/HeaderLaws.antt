@@ -14,7 +14,7 @@ use Rattle.grammar.specs.Reader.{sameKind}
 use Rattle.grammar.specs.Refusals.{HasCode}
 use Rattle.grammar.specs.declared.SliceRule.{SliceRule}
 
--- a unit of another kind
+-- a unit of another kind than a sequence header
 abbrev pub OtherKind : StreamUnit → Type 0
 OtherKind u = (k : Kind) × IsKind k u × (sameKind k kind.SequenceHeader ≡ false)
 

@@ -1,4 +1,4 @@
--- Kinds of unit are told apart.
+-- Kinds of unit are told apart, and a sequence header is told by its code byte.
 use Prim.Native.Nat.{ℕ}
 use mathlib.Core.Path.{_≡_, refl, sym, _∙_, ap, subst}
 use mathlib.Core.Logic.{_⊎_, inl, inr, _↔_}

@@ -17,12 +17,12 @@ pub record Starts (us : List StreamUnit) (p : List ℕ) : Type 0 where
   pub divided : us ≡ before ++ unit ∷ after
   pub bytes-are : p ≡ concatMap bytes before
 
--- at the end of a unit's bytes it is the start of the next
+-- right after a unit's bytes it is the start of the next
 next-starts : (u : StreamUnit) (us : List StreamUnit) (p after : List ℕ) → p ≡ bytes u → 0 ∷ 0 ∷ 1 ∷ after ≡ concatMap bytes us → Starts (u ∷ us) p
 next-starts u [] p after l e = let z : _≡_ {A = ℕ} 0 1 = cc in absurd (omega arith)
 next-starts u (v ∷ vs) p after l e = record { before = u ∷ []; unit = v; after = vs; divided = refl; bytes-are = l ∙ sym (append-nil (bytes u)) }
 
--- in a unit's bytes it is the unit's start
+-- in a unit's bytes it is the unit's start, at their end that of the next
 inside : (u : StreamUnit) (us : List StreamUnit) (p after mid : List ℕ) → Alone u → bytes u ≡ p ++ mid → 0 ∷ 0 ∷ 1 ∷ after ≡ mid ++ concatMap bytes us → Starts (u ∷ us) p
 inside u us p after mid a l e = elim (code-between mid after us e) [
   | inl none ↦ next-starts u us p after (sym (l ∙ ap (λ (t : List ℕ). p ++ t) none ∙ append-nil p)) (e ∙ ap (λ (t : List ℕ). t ++ concatMap bytes us) none)
