@@ -1,8 +1,8 @@
 -- A walk gives the units of a stream exactly where it has a reading, and they are that reading's; so are the rows.
 use Prim.Native.Nat.{ℕ, _≤_, _+_}
 use mathlib.Core.Path.{_≡_, refl, sym, _∙_, ap, subst}
-use mathlib.Core.Logic.{_≢_, _↔_}
-use mathlib.Core.List.{List, [], _∷_, _++_, map, map-append}
+use mathlib.Core.Logic.{_↔_}
+use mathlib.Core.List.{List, [], _∷_, map, map-append}
 use mathlib.Core.Bool.{true, cond}
 use lib.ListN.{length}
 use lib.Dec.{ltb}
@@ -27,6 +27,7 @@ use Rattle.grammar.specs.declared.State.the-variants.{Start}
 use Rattle.grammar.specs.declared.Reason.the-variants.{Unended}
 use Rattle.grammar.proofs.CutLaws.{chunk, cut-units, uncut}
 use Rattle.grammar.proofs.Division.{Accepts, sound, complete}
+use Rattle.grammar.proofs.HeaderLaws.{reads-code}
 use Rattle.grammar.proofs.StepLaws.{step-sound, step-complete}
 
 abbrev pub unitOf : Placed → StreamUnit
@@ -100,11 +101,7 @@ any-sound s ms e = by-test (begins s) (λ b. from-chunks b (walked-sound (cut s 
 
 begun : (s : List ℕ) (r : Reading) → Reads s r → begins s ≡ true
 unfolding begins
-begun s r h = subst (λ (l : List ℕ). begins l ≡ true) (h .stream-is) (by-groups (r .groups) (h .some-group))
-  where
-    by-groups : (gs : List Group) → gs ≢ [] → begins (concatMap bytes (concatMap groupUnits gs ++ r .ending)) ≡ true
-    by-groups [] n = absurd (n refl)
-    by-groups (g ∷ gs) n = refl
+begun s r h = ap begins (reads-code s r h .1)
 
 any-complete : (s : List ℕ) (r : Reading) → Reads s r → walkOfAny s ≡ good (placedUnits r)
 unfolding walkOfAny
