@@ -18,7 +18,7 @@ use renorm::Renormalised;
 
 // Document 01's rS, rT, valueS and valueT, and the place of the next bit.
 #[repr(C)]
-#[derive(Drop)]
+#[derive(Clone, Copy)]
 pub struct State {
     pub rs: u32,
     pub rt: u32,
@@ -28,7 +28,7 @@ pub struct State {
 }
 
 // What a start answers; PayloadOut with how many bits were missing.
-#[derive(Drop)]
+#[derive(Clone, Copy)]
 pub enum Started {
     Done(State),
     TooLong,
@@ -36,7 +36,7 @@ pub enum Started {
 }
 
 // A bin is refused: PayloadOut for want of one bit, since it reads bit by bit. State and contexts are the caller's own.
-#[derive(Drop)]
+#[derive(Clone, Copy)]
 pub enum Refusal {
     TooLong,
     BadState,
@@ -44,69 +44,69 @@ pub enum Refusal {
 }
 
 // A bin and the next state.
-#[derive(Drop)]
+#[derive(Clone, Copy)]
 pub enum Stepped {
     Done(u32, State),
     Refused(Refusal),
 }
 
 // A bin, the next state and the updated context.
-#[derive(Drop)]
+#[derive(Clone, Copy)]
 pub enum Decoded {
     Done(u32, State, Context),
     Refused(Refusal),
 }
 
 // A bin, the next state and both updated contexts.
-#[derive(Drop)]
+#[derive(Clone, Copy)]
 pub enum DecodedPair {
     Done(u32, State, Context, Context),
     Refused(Refusal),
 }
 
-#[derive(Drop)]
+#[derive(Clone, Copy)]
 enum Checked {
     Fine,
     Refused(Refusal),
 }
 
 // A doubled number and the place after its bit.
-#[derive(Drop)]
+#[derive(Clone, Copy)]
 enum Doubled {
     Done(u32, usize),
     Refused(Refusal),
 }
 
 // A number that takes bits, the number that is stepped beside it, and the place of the next bit.
-#[derive(Drop)]
+#[derive(Clone, Copy)]
 struct Shift {
     value: u32,
     beside: u32,
     place: usize,
 }
 
-#[derive(Drop)]
+#[derive(Clone, Copy)]
 enum Shifted {
     Done(Shift),
     Refused(Refusal),
 }
 
 // The state of a normalised value.
-#[derive(Drop)]
+#[derive(Clone, Copy)]
 enum Settled {
     Done(State),
     Refused(Refusal),
 }
 
 // What the quick way answers: a bin and the next state, or that it does not answer.
-#[derive(Drop)]
+#[derive(Clone, Copy)]
 enum Tried {
     Done(u32, State),
     Slow,
 }
 
 // s, t and R of a bin.
-#[derive(Drop)]
+#[derive(Clone, Copy)]
 struct Split {
     s: u32,
     t: u32,
@@ -114,7 +114,7 @@ struct Split {
 }
 
 // The predicted bin p, and lg.
-#[derive(Drop)]
+#[derive(Clone, Copy)]
 struct Prediction {
     p: u32,
     lg: u32,

@@ -4,7 +4,7 @@ ghost use Rattle.bits.specs.Bits.{bits_in, bits_of, payload, bit_at, read_within
 ghost use Rattle.bits.specs.Reader.{word_at};
 
 // The bit at a place, or none.
-#[derive(Drop)]
+#[derive(Clone, Copy)]
 pub enum Bit {
     Is(u32),
     Missing,
@@ -12,7 +12,7 @@ pub enum Bit {
 
 // What a read answers: the number that the bits write; Missing with how many of them are not there, and then none is taken;
 // TooWide for a width over 32.
-#[derive(Drop)]
+#[derive(Clone, Copy)]
 pub enum Read {
     Value(u32),
     Missing(u32),
@@ -20,7 +20,7 @@ pub enum Read {
 }
 
 // The bits from a place on that are left of four bytes: the number that they write, and how many they are, 25 to 32.
-#[derive(Drop)]
+#[derive(Clone, Copy)]
 pub enum Word {
     Bits(u32, u32),
     Few,

@@ -13,7 +13,7 @@ ghost use Rattle.bodies.specs.Answers.{value_number, fault_number, header_says, 
 use bits::{Bit, Read};
 use layout::{Fault, JudgedField, Layout, Verdict};
 
-#[derive(Drop)]
+#[derive(Clone, Copy)]
 pub struct SequenceHeader {
     pub profile: u32,
     pub level: u32,
@@ -30,20 +30,20 @@ pub struct SequenceHeader {
 }
 
 // A sequence header's record, or what its body is refused for.
-#[derive(Drop)]
+#[derive(Clone, Copy)]
 pub enum HeaderAnswer {
     Header(SequenceHeader),
     Refused(Fault),
 }
 
 // A display extension's colour: primaries, transfer, matrix.
-#[derive(Drop)]
+#[derive(Clone, Copy)]
 pub enum Colour {
     Given(u32, u32, u32),
     NotGiven,
 }
 
-#[derive(Drop)]
+#[derive(Clone, Copy)]
 pub struct DisplayExtension {
     pub format: u32,
     pub range: u32,
@@ -53,7 +53,7 @@ pub struct DisplayExtension {
     pub stereo: u32,
 }
 
-#[derive(Drop)]
+#[derive(Clone, Copy)]
 pub struct CopyrightExtension {
     pub flag: u32,
     pub owner: u32,
@@ -62,14 +62,14 @@ pub struct CopyrightExtension {
 }
 
 // Where an extension stands: in a group's head, or after a picture header.
-#[derive(Drop)]
+#[derive(Clone, Copy)]
 pub enum Scope {
     Head,
     Picture,
 }
 
 // An extension's record, or of an opaque one its number alone, or what its body is refused for.
-#[derive(Drop)]
+#[derive(Clone, Copy)]
 pub enum ExtensionAnswer {
     Display(DisplayExtension),
     Copyright(CopyrightExtension),
@@ -198,7 +198,7 @@ pub fn sequence_header(body: &[u8]) -> HeaderAnswer
 }
 
 // The extensions that have a record.
-#[derive(Drop)]
+#[derive(Clone, Copy)]
 enum Recorded {
     Plain,
     Coloured,

@@ -4,7 +4,7 @@ ghost use Rattle.contexts.specs.Contexts.{good_context, fresh_context, next_cycn
 
 // Document 01's mps, the likelier bin, with lg and cycno.
 #[repr(C)]
-#[derive(Drop)]
+#[derive(Clone, Copy)]
 pub struct Context {
     pub mps: u32,
     pub lg: u32,

@@ -9,14 +9,14 @@ use rates::Rate;
 mod packed;
 
 // An entry of a table: the next lg, or none where the table has ended.
-#[derive(Drop)]
+#[derive(Clone, Copy)]
 pub enum Entry {
     Lg(u32),
     NotGiven,
 }
 
 // Four entries of each table, for rates 3, 4 and 5.
-#[derive(Drop)]
+#[derive(Clone, Copy)]
 struct Words(u64, u64, u64);
 
 fn picked(words: Words, w: u32) -> u64

@@ -16,25 +16,25 @@ use startcode::{Kind, UnitKind};
 use units::UnitAnswer;
 
 // A refusal and its offset in the stream.
-#[derive(Drop)]
+#[derive(Clone, Copy)]
 pub struct Refusal {
     pub reason: Reason,
     pub offset: usize,
 }
 
-#[derive(Drop)]
+#[derive(Clone, Copy)]
 pub struct Totals {
     pub units: usize,
 }
 
-#[derive(Drop)]
+#[derive(Clone, Copy)]
 pub enum FilingAnswer {
     Filed(Totals),
     Refused(Refusal),
 }
 
 // The number of units, or the first refusal.
-#[derive(Drop)]
+#[derive(Clone, Copy)]
 pub enum Checked {
     Good(usize),
     Refused(Refusal),

@@ -5,7 +5,7 @@ ghost use Rattle.grammar.specs.Reasons.{reason_number};
 use layout::Fault;
 
 // A group's slice rule: whether slices are tested, and the macroblock rows.
-#[derive(Drop)]
+#[derive(Clone, Copy)]
 pub struct SliceRule {
     pub tested: bool,
     pub rows: u32,
@@ -13,7 +13,7 @@ pub struct SliceRule {
 
 // Where the walk stands. Head says whether a display extension was read since the sequence header, Slices the least code
 // that the next slice may have. Ended is after B1, Closed after B7.
-#[derive(Drop)]
+#[derive(Clone, Copy)]
 pub enum State {
     Start,
     Head(SliceRule, bool),
@@ -25,7 +25,7 @@ pub enum State {
 
 // Why a stream is refused. Body is what is wrong with a unit's body, whole; SliceOrder and SliceRow tell which of a slice's
 // two rules is broken.
-#[derive(Drop)]
+#[derive(Clone, Copy)]
 pub enum Reason {
     NoCode,
     Cut,
@@ -42,7 +42,7 @@ pub enum Reason {
 }
 
 // What follows a unit: the next state, or why there is none.
-#[derive(Drop)]
+#[derive(Clone, Copy)]
 pub enum Step {
     Go(State),
     Stop(Reason),

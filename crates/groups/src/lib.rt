@@ -13,13 +13,13 @@ use filing::{Checked, Refusal};
 use startcode::{Kind, UnitKind};
 
 // The display extension of a group's head.
-#[derive(Drop)]
+#[derive(Clone, Copy)]
 pub enum Display {
     Given(DisplayExtension),
     NotGiven,
 }
 
-#[derive(Drop)]
+#[derive(Clone, Copy)]
 pub enum GroupAnswer {
     Group(SequenceHeader, Display),
     NoRow,
@@ -27,7 +27,7 @@ pub enum GroupAnswer {
 }
 
 // What a unit after a sequence header is: the display extension, another unit of the group's head, or past it.
-#[derive(Drop)]
+#[derive(Clone, Copy)]
 enum InHead {
     Display(DisplayExtension),
     Other,

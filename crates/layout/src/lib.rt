@@ -10,7 +10,7 @@ ghost use Rattle.layout.specs.Inside.{field_says, taken, taken_from};
 use bits::Read;
 
 // The fields of the layouts.
-#[derive(Drop)]
+#[derive(Clone, Copy)]
 pub enum Name {
     Profile,
     Level,
@@ -47,7 +47,7 @@ pub enum Name {
 
 // The fields that are refused for their value, by document 02's names: width and height are the sizes of a sequence header. The
 // copyright number is its three parts together.
-#[derive(Drop)]
+#[derive(Clone, Copy)]
 pub enum JudgedField {
     Width,
     Height,
@@ -63,7 +63,7 @@ pub enum JudgedField {
 }
 
 // The values that a field may have.
-#[derive(Drop)]
+#[derive(Clone, Copy)]
 pub enum Values {
     Only(u32),
     But(u32),
@@ -72,7 +72,7 @@ pub enum Values {
 }
 
 // What is asked of a field: nothing; that it is 1, of a marker; or one of some values, otherwise it is refused as this field.
-#[derive(Drop)]
+#[derive(Clone, Copy)]
 pub enum Rule {
     Any,
     Set,
@@ -80,11 +80,11 @@ pub enum Rule {
 }
 
 // A field: its name, its width in bits, and what is asked of it.
-#[derive(Drop)]
+#[derive(Clone, Copy)]
 pub struct Field(pub Name, pub u32, pub Rule);
 
 // The layouts: a display extension has two, without colour and with it.
-#[derive(Drop)]
+#[derive(Clone, Copy)]
 pub enum Layout {
     Header,
     Display,
@@ -93,7 +93,7 @@ pub enum Layout {
 }
 
 // What is wrong with a body: it is too short; a marker, by its bit; a value, by its field and that one's first bit; its end.
-#[derive(Drop)]
+#[derive(Clone, Copy)]
 pub enum Fault {
     Short,
     Marker(usize),
@@ -101,14 +101,14 @@ pub enum Fault {
     Stuffing,
 }
 
-#[derive(Drop)]
+#[derive(Clone, Copy)]
 pub enum Verdict {
     Fine,
     Faulty(Fault),
 }
 
 // A body that was read. Where the verdict is Fine the first values are those of its fields, in order; no other is a field's.
-#[derive(Drop)]
+#[derive(Clone, Copy)]
 pub struct Body {
     pub verdict: Verdict,
     pub values: [u32; 16],
@@ -318,7 +318,7 @@ fn wide(x: u32) -> usize
 }
 
 // A field that was read: its value, or what the body is refused for there.
-#[derive(Drop)]
+#[derive(Clone, Copy)]
 enum FieldReading {
     Value(u32),
     Faulty(Fault),

@@ -15,7 +15,7 @@ use rates::Rate;
 
 // An Exp-Golomb number with the place after it.
 #[repr(C)]
-#[derive(Drop)]
+#[derive(Clone, Copy)]
 pub struct Number {
     pub status: u32,
     pub missing: u32,
@@ -24,7 +24,7 @@ pub struct Number {
 }
 
 #[repr(C)]
-#[derive(Drop)]
+#[derive(Clone, Copy)]
 pub struct SignedNumber {
     pub status: u32,
     pub missing: u32,
@@ -33,7 +33,7 @@ pub struct SignedNumber {
 }
 
 #[repr(C)]
-#[derive(Drop)]
+#[derive(Clone, Copy)]
 pub struct Begun {
     pub status: u32,
     pub missing: u32,
@@ -42,7 +42,7 @@ pub struct Begun {
 
 // A bin of no context, of one and of two, with what follows it.
 #[repr(C)]
-#[derive(Drop)]
+#[derive(Clone, Copy)]
 pub struct PlainBin {
     pub status: u32,
     pub missing: u32,
@@ -51,7 +51,7 @@ pub struct PlainBin {
 }
 
 #[repr(C)]
-#[derive(Drop)]
+#[derive(Clone, Copy)]
 pub struct Bin {
     pub status: u32,
     pub missing: u32,
@@ -61,7 +61,7 @@ pub struct Bin {
 }
 
 #[repr(C)]
-#[derive(Drop)]
+#[derive(Clone, Copy)]
 pub struct PairBin {
     pub status: u32,
     pub missing: u32,

@@ -15,7 +15,7 @@ const LIMIT: usize = 65536;
 // ── escape removal ──
 
 // Done with the bit count.
-#[derive(Drop)]
+#[derive(Clone, Copy)]
 pub enum Removed {
     Done(usize),
     Full,
@@ -23,7 +23,7 @@ pub enum Removed {
 }
 
 // `full` bytes are written; the last k bits of `value` are not yet.
-#[derive(Drop)]
+#[derive(Clone, Copy)]
 struct Packer {
     full: usize,
     value: u32,
@@ -193,7 +193,7 @@ pub fn remove_escapes(raw: &[u8], out: &mut [u8]) -> Removed
 // ── Exp-Golomb numbers ──
 
 // A number and the place after it; PayloadOut with how many bits were missing.
-#[derive(Drop)]
+#[derive(Clone, Copy)]
 pub enum Golomb {
     Number(u32, usize),
     Value,
@@ -201,7 +201,7 @@ pub enum Golomb {
     PayloadOut(u32),
 }
 
-#[derive(Drop)]
+#[derive(Clone, Copy)]
 pub enum SignedGolomb {
     Number(i32, usize),
     Value,
@@ -210,7 +210,7 @@ pub enum SignedGolomb {
 }
 
 // Zeros before a 1, with the place after that 1.
-#[derive(Drop)]
+#[derive(Clone, Copy)]
 enum Zeros {
     Before(u32, usize),
     TooMany,

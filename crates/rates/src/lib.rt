@@ -8,7 +8,7 @@ mod next4;
 mod next5;
 
 // The rates, whose w is 3, 4 and 5.
-#[derive(Drop)]
+#[derive(Clone, Copy)]
 pub enum Rate {
     Three,
     Four,

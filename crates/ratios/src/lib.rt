@@ -3,13 +3,13 @@ ghost use Rattle.std.specs.Prelude.{◌≡◌, ◌<◌};
 ghost use Rattle.ratios.specs.Ratios.{frame_rate, display_ratio};
 
 // A fraction by its numerator and denominator.
-#[derive(Drop)]
+#[derive(Clone, Copy)]
 pub enum Ratio {
     Given(u32, u32),
     NotGiven,
 }
 
-#[derive(Drop)]
+#[derive(Clone, Copy)]
 pub struct Fraction(pub u32, pub u32);
 
 // Frame rates, by codes from 1 on.

@@ -6,7 +6,7 @@ ghost use Rattle.renorm.specs.Reader.{doublings_of, needed_of, left_of, shifted_
 use bits::Word;
 
 // rT, valueS and valueT after it, and how many bits it took.
-#[derive(Drop)]
+#[derive(Clone, Copy)]
 pub struct Registers {
     pub rt: u32,
     pub vs: u32,
@@ -15,7 +15,7 @@ pub struct Registers {
 }
 
 // Short where the bits at hand are too few: bits are then to be taken one by one.
-#[derive(Drop)]
+#[derive(Clone, Copy)]
 pub enum Renormalised {
     Done(Registers),
     Short,

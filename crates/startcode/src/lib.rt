@@ -4,7 +4,7 @@ ghost use Rattle.startcode.specs.Prefix.{begins, next_prefix};
 ghost use Rattle.startcode.specs.Kinds.{kind_of, kind_says};
 ghost use Rattle.startcode.specs.Inside.{Found, Runs};
 
-#[derive(Drop)]
+#[derive(Clone, Copy)]
 pub enum Kind {
     Slice,
     SequenceHeader,
@@ -16,7 +16,7 @@ pub enum Kind {
     EditCode,
 }
 
-#[derive(Drop)]
+#[derive(Clone, Copy)]
 pub enum UnitKind {
     Is(Kind),
     Unknown,
@@ -76,7 +76,7 @@ pub fn next_prefix(stream: &[u8], from: usize) -> usize
 }
 
 // A place, and the steps that led there.
-#[derive(Drop)]
+#[derive(Clone, Copy)]
 struct Reached {
     place: usize,
     steps: usize,

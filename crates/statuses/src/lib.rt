@@ -21,7 +21,7 @@ use startcode::{Kind, UnitKind};
 // What a call answers: a status, the offset of a stream's refusal, how many units, numbers or bits were handed over, and the bit place
 // inside the body that a refusal carries.
 #[repr(C)]
-#[derive(Drop)]
+#[derive(Clone, Copy)]
 pub struct Answer {
     pub status: u32,
     pub offset: usize,
@@ -34,7 +34,7 @@ const NO_BIT: usize = 0xFFFFFFFFFFFFFFFF;
 
 // A part of a stream.
 #[repr(C)]
-#[derive(Drop)]
+#[derive(Clone, Copy)]
 pub struct Part {
     pub offset: usize,
     pub length: usize,

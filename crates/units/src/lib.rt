@@ -11,7 +11,7 @@ use grammar::{Reason, SliceRule, State, Step};
 use startcode::{Kind, UnitKind};
 
 // The state after a unit, where it ends and its row's length; or why it is refused; or that no unit begins here.
-#[derive(Drop)]
+#[derive(Clone, Copy)]
 pub enum UnitAnswer {
     Next(State, usize, usize),
     Refused(Reason),
