@@ -1,4 +1,6 @@
 // The arithmetic bin decoder, by value.
+#![tactic(auto)]
+
 ghost use Rattle.std.specs.Prelude.{◌≡◌, true, ◌*◌, ◌/◌, ◌≤◌, ◌<◌, length, drop};
 ghost use Rattle.answers.specs.Answers.{and_then};
 ghost use Rattle.answers.specs.Limits.{longest_payload, most_bits};

@@ -1,1 +1,2 @@
 // Answers are said in definitions (specs/); there is no code.
+#![tactic(auto)]

@@ -1,4 +1,6 @@
 // What C and Rust call: a function of the library each, under C's name.
+#![tactic(auto)]
+
 ghost use Rattle.std.specs.Prelude.{◌≡◌, length};
 ghost use Rattle.answers.specs.Answers.{done, map_done};
 ghost use Rattle.startcode.specs.Kinds.{kind_of};

@@ -1,4 +1,6 @@
 // Reading bits of bytes, most significant first.
+#![tactic(auto)]
+
 ghost use Rattle.std.specs.Prelude.{◌≡◌, ◌+◌, ◌-◌, ◌*◌, ◌/◌, ◌%◌, ◌^◌, ◌≤◌, ◌<◌, length, take, drop};
 ghost use Rattle.bits.specs.Bits.{bits_in, bits_of, payload, bit_at, read_within};
 ghost use Rattle.bits.specs.Reader.{word_at};

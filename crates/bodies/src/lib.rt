@@ -1,4 +1,6 @@
 // Sequence headers and extensions: their records, or what is wrong with their bodies.
+#![tactic(auto)]
+
 ghost use Rattle.std.specs.Prelude.{◌≡◌, ◌<◌, length};
 ghost use Rattle.std.proofs.Math.Option.{some};
 ghost use Rattle.bits.specs.Bits.{read_says};

@@ -1,4 +1,6 @@
 // Contexts of the bin decoder: their ranges, a fresh one, and the update after a bin.
+#![tactic(auto)]
+
 ghost use Rattle.std.specs.Prelude.{◌≡◌, ◌&&◌};
 ghost use Rattle.contexts.specs.Contexts.{good_context, fresh_context, next_cycno, updated_of};
 

@@ -1,1 +1,2 @@
 // Where a recording may be cut is said in definitions (specs/) and proved (proofs/); there is no code.
+#![tactic(auto)]

@@ -1,4 +1,6 @@
 // The tables of rates, as they are read: from words of read-only memory, four entries each.
+#![tactic(auto)]
+
 ghost use Rattle.std.specs.Prelude.{◌≡◌};
 ghost use Rattle.rates.specs.Rates.{next_lg, w_of};
 ghost use Rattle.entries.specs.Entries.{entry_of};

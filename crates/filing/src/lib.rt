@@ -1,4 +1,6 @@
 // Filing of one video sequence: its units are checked, counted, and then written as rows.
+#![tactic(auto)]
+
 ghost use Rattle.std.specs.Prelude.{◌≡◌, ◌∷◌, ◌++◌, ◌+◌, ◌*◌, ◌≤◌, ◌<◌, length, get_or, set, take, drop};
 ghost use Rattle.std.proofs.Math.ListN;
 ghost use Rattle.answers.specs.Answers.{done};

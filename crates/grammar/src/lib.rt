@@ -1,4 +1,6 @@
 // What a walk over a stream's units knows at each of them, and why it stops.
+#![tactic(auto)]
+
 ghost use Rattle.std.specs.Prelude.{◌≡◌};
 ghost use Rattle.grammar.specs.Reasons.{reason_number};
 

@@ -1,4 +1,6 @@
 // Group g of a stream: its header record, with the display extension given or not given.
+#![tactic(auto)]
+
 ghost use Rattle.std.specs.Prelude.{◌≡◌};
 ghost use Rattle.answers.specs.Answers.{done};
 ghost use Rattle.bodies.specs.Reader.{header_of, extension_of};

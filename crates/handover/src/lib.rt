@@ -1,4 +1,6 @@
 // Numbers handed to C and Rust of groups, bodies and ratios, in lent memory. What is not given has no numbers.
+#![tactic(auto)]
+
 ghost use Rattle.std.specs.Prelude.{◌≡◌, ◌∷◌, ◌++◌, ◌≤◌, length};
 ghost use Rattle.answers.specs.Answers.{done, map_done};
 ghost use Rattle.bodies.specs.Reader as reader;

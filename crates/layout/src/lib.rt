@@ -1,4 +1,6 @@
 // Bodies read by their layouts: the tables of fields, their values, and what a body is refused for.
+#![tactic(auto)]
+
 ghost use Rattle.std.specs.Prelude.{◌≡◌, ◌∷◌, ◌&&◌, ◌+◌, ◌*◌, ◌<◌, ◌≤◌, length, drop, eqb, leb};
 ghost use Rattle.bits.specs.Bits.{bits_of};
 ghost use Rattle.layout.specs.Layouts.{width_of, header_fields, display_fields, coloured_fields, copyright_fields, fields, least_bytes};

@@ -1,4 +1,6 @@
 // What a sequence header record says of macroblocks and slices.
+#![tactic(auto)]
+
 ghost use Rattle.std.specs.Prelude.{◌≡◌, ◌<◌};
 ghost use Rattle.macroblocks.specs.Macroblocks.{macroblock_columns, macroblock_rows, slices_tested};
 

@@ -1,5 +1,7 @@
 // Exp-Golomb numbers, bins and the tables' entries by value. A refusal gives back the place, the state and the contexts that were asked with, and has a
 // mark that is no number and no bin in place of what it has none of. Beside the status is how many bits were missing, for PAYLOAD OUT.
+#![tactic(auto)]
+
 ghost use Rattle.std.specs.Prelude.{◌≡◌};
 ghost use Rattle.answers.specs.Missing.{missing_in};
 ghost use Rattle.payload.specs.Reader.{golomb, signed_golomb};

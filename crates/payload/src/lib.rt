@@ -1,4 +1,6 @@
 // Payloads: removal of escape bits, and Exp-Golomb numbers.
+#![tactic(auto)]
+
 ghost use Rattle.std.specs.Prelude.{◌≡◌, cond, [], ◌++◌, ◌+◌, ◌*◌, ◌≤◌, ◌<◌, eqb, length, get_or, take, drop};
 ghost use Rattle.answers.specs.Limits.{longest_payload};
 ghost use Rattle.bits.specs.Bits.{bits_in, pack_on, payload};

@@ -1,4 +1,6 @@
 // What belongs to a context's rate: w by the cycno, the gain, the next lg by the formula, and the tables of it.
+#![tactic(auto)]
+
 ghost use Rattle.std.specs.Prelude.{◌≡◌};
 ghost use Rattle.rates.specs.Rates.{w_of, rate_of, next_lg, gain_of};
 ghost use Rattle.rates.specs.Tables.{tables};

@@ -1,4 +1,6 @@
 // Frame rates and display ratios, by their codes in a sequence header.
+#![tactic(auto)]
+
 ghost use Rattle.std.specs.Prelude.{◌≡◌, ◌<◌};
 ghost use Rattle.ratios.specs.Ratios.{frame_rate, display_ratio};
 

@@ -1,4 +1,6 @@
 // Renormalisation after a bin that was not predicted, by the next 25 to 32 bits at once.
+#![tactic(auto)]
+
 ghost use Rattle.std.specs.Prelude.{◌≡◌, ◌+◌, ◌-◌, ◌*◌, ◌≤◌, ◌<◌};
 ghost use Rattle.bits.specs.Bits.{payload};
 ghost use Rattle.renorm.specs.Reader.{doublings_of, needed_of, left_of, shifted_of, renormalise_of};

@@ -1,4 +1,6 @@
 // Rows, three words each: whether a row exists, and its body as a part of the stream.
+#![tactic(auto)]
+
 ghost use Rattle.std.specs.Prelude.{◌≡◌, ◌<◌};
 ghost use Rattle.rows.specs.Rows.{row_exists, row_body, body_address};
 

@@ -1,5 +1,7 @@
 // Document 01's header H and examples 1 to 7, asked of the Rattle functions: a line each. A refusal is its number, its offset
 // and its bit, - where it has none. tests/examples_oracle.py has the answers as the papers give them.
+#![tactic(auto)]
+
 use bodies::{HeaderAnswer, SequenceHeader};
 use filing::FilingAnswer;
 use grammar::Reason;

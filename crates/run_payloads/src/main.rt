@@ -1,5 +1,7 @@
 // Document 01's examples 8 to 12 and document 02's tables, asked of the Rattle functions: a line each. A refusal is its number, PAYLOAD OUT with how many bits
 // are missing. tests/payloads_oracle.py has the answers as document 01 gives them.
+#![tactic(auto)]
+
 use aec::{Decoded, Started, State};
 use contexts::Context;
 use libc::STDOUT_FILENO;

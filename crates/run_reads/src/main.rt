@@ -1,5 +1,7 @@
 // What a Rattle caller can ask of bits, start codes, header records and rows, and the C boundary cannot: a line each, the question and
 // its answer. tests/reads_oracle.py reads the questions from this file, works the answers out by itself, and says what the numbers are.
+#![tactic(auto)]
+
 use bits::{Bit, Read};
 use bodies::SequenceHeader;
 use libc::STDOUT_FILENO;

@@ -1,6 +1,8 @@
 // What a Rattle caller can ask of one unit in a state, and of a body's number before its fields, and the C boundary cannot: a line each,
 // the question and its answer. A refusal is its number and its bit, - where it has none. tests/units_oracle.py reads the questions from this file, works the answers out by
 // itself, and says what the numbers are.
+#![tactic(auto)]
+
 ghost use Rattle.std.specs.Prelude.{◌≡◌, length};
 
 use bodies::{ExtensionAnswer, HeaderAnswer, Scope};

@@ -1,4 +1,6 @@
 // Start codes: the prefix 00 00 01 and the kinds of unit.
+#![tactic(auto)]
+
 ghost use Rattle.std.specs.Prelude.{◌≡◌, ◌+◌, ◌<◌, length, drop};
 ghost use Rattle.startcode.specs.Prefix.{begins, next_prefix};
 ghost use Rattle.startcode.specs.Kinds.{kind_of, kind_says};

@@ -1,5 +1,7 @@
 // What C and Rust are answered by value: a status, which is the papers' number, with a count, the offset of a refused stream and the bit of
 // a refused field; where a row's body lies; the number of a kind of unit.
+#![tactic(auto)]
+
 ghost use Rattle.std.specs.Prelude.{◌≡◌, [], ◌+◌, ◌<◌, length, get_or};
 ghost use Rattle.answers.specs.Answers.{done, refused};
 ghost use Rattle.startcode.specs.Kinds.{kind_of};

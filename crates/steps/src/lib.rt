@@ -1,4 +1,6 @@
 // What follows a unit, by its kind: the next state, or why the unit is refused.
+#![tactic(auto)]
+
 ghost use Rattle.std.specs.Prelude.{◌≡◌};
 ghost use Rattle.layout.specs.Reader.{all_zero};
 ghost use Rattle.bodies.specs.Reader.{extension_result};

@@ -1,4 +1,6 @@
 // Texts put into lent bytes from a place on: what does not fit is cut. The answer is the place after the text.
+#![tactic(auto)]
+
 ghost use Rattle.std.specs.Prelude.{◌≡◌, [], ◌∷◌, ◌/◌, ◌%◌, ◌<◌, min, nat_abs};
 ghost use Rattle.text.specs.Text.{Put, digit, decimal, signed, hex_digit, hex};
 

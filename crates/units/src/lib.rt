@@ -1,4 +1,6 @@
 // One unit of a stream, read in the state that the units before it lead to.
+#![tactic(auto)]
+
 ghost use Rattle.std.specs.Prelude.{◌≡◌, cond, ◌<◌, length};
 ghost use Rattle.answers.specs.Answers.{done};
 ghost use Rattle.grammar.specs.Rows.{placed, trimmed, whole_body, row_length};

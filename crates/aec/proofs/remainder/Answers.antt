@@ -1,0 +1,56 @@
+-- valueT less t, at once or with the borrowed bit.
+use Prim.Native.Nat.{ℕ, ◌+◌, ◌-◌}
+use mathlib.Core.Path.{◌≡◌, sym, ap, ◌∙◌}
+use mathlib.Core.List.{List}
+use native.Mathlib.Omega.{arith}
+use lib.ListN.{drop}
+use Rattle.answers.specs.Answers.{Outcome, done}
+use Rattle.bits.specs.Bits.{payload}
+use Rattle.bits.proofs.BitLaws.{all_payload}
+use Rattle.aec.specs.Bins.{double_of}
+use Rattle.aec.specs.Inside.{doubled_says}
+use Rattle.aec.specs.declared.Split.{Split}
+use Rattle.answers.proofs.OutcomeLaws.{stops, goes}
+use Rattle.aec.proofs.ShiftLaws.{Taken, taken}
+use Rattle.aec.proofs.StepLaws.{missed, remainder_even, remainder_past}
+use borrow.Author.Rules.{rules}
+use Rattle.aec.proofs.remainder.Goals as goal
+use Rattle.aec.proofs.remainder.Goals.{In-Done, Start}
+
+abbrev bits : Start → List ℕ
+bits e = payload e.args.bytes.now e.args.count
+
+-- what becomes of the doubled value
+abbrev lessened : Split → ℕ × ℕ → Outcome (ℕ × ℕ)
+lessened y v = done (256 + v.0 - y.t, v.1)
+
+pub overflow_sub-result : goal.overflow_sub-result
+overflow_sub-result c =
+    omega (arith, missed c.args.x c.args.y c.requires.2 c.if-y-x.true)
+
+pub returns-then-y-x : goal.returns-then-y-x
+returns-then-y-x c =
+    remainder_even (bits (goal.at.returns-then-y-x c).Start) c.args.x c.args.y c.if-y-x.true
+
+module _ (c : In-Done) where
+  bit-taken : done (c.in-Done.more, c.in-Done.next) ≡ double_of (drop c.args.x.place (bits entry)) c.args.x.vt c.args.x.place
+  bit-taken = ap doubled_says (sym c.in-Done.is) ∙ c.take_bit.ensures
+
+  bound : Taken (bits entry) c.args.x.vt c.args.x.place c.in-Done.more c.in-Done.next
+  bound = taken (bits entry) _ _ _ _ (all_payload c.args.bytes.now c.args.count) (sym bit-taken)
+
+pub overflow_add-result : goal.overflow_add-result
+overflow_add-result c = let b = bound c in omega arith
+
+pub overflow_sub-result-in-Done : goal.overflow_sub-result-in-Done
+overflow_sub-result-in-Done c = let b = bound (goal.at.overflow_sub-result-in-Done c).In-Done in omega arith
+
+pub returns-in-Done : goal.returns-in-Done
+returns-in-Done c =
+    let e = entry (goal.at.returns-in-Done c).In-Done in
+    goes (lessened e.args.y) (bit-taken (goal.at.returns-in-Done c).In-Done) ∙ sym (remainder_past (bits e) e.args.x e.args.y c.if-y-x.false)
+
+pub returns-in-Refused : goal.returns-in-Refused
+returns-in-Refused c =
+    stops (lessened c.args.y) (ap doubled_says (sym c.in-Refused.is) ∙ c.take_bit.ensures)
+    ∙ sym (remainder_past (bits (goal.at.returns-in-Refused c).Start) c.args.x c.args.y c.if-y-x.false)

@@ -1,0 +1,18 @@
+-- What follows a step that is done; a refusal stays.
+use mathlib.Core.Path.{sym, ap, ◌∙◌}
+use Rattle.answers.specs.Answers.{done}
+use Rattle.answers.proofs.OutcomeLaws.{stops, goes}
+use Rattle.contexts.proofs.ContextLaws.{updated_is}
+use Rattle.aec.specs.Says.{stepped_says}
+use Rattle.aec.specs.Inside.{updating}
+use borrow.Author.Rules.{rules}
+use Rattle.aec.proofs.renewed.Goals as goal
+
+pub returns-in-Done : goal.returns-in-Done
+returns-in-Done c =
+    let g = c.r-1.given in
+    let a = c.args in
+    ap (λ d. done (g.0.0, g.0.1.0, d)) (c.updated.ensures ∙ updated_is _ _ c.requires) ∙ goes (updating a.c) (ap stepped_says (sym g.1))
+
+pub returns-in-Refused : goal.returns-in-Refused
+returns-in-Refused c = let a = c.args in stops (updating a.c) (ap stepped_says (sym c.in-Refused.is))

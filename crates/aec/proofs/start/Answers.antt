@@ -1,0 +1,69 @@
+-- The first nine bits, and then the state that they settle to.
+use Prim.Native.Nat.{ℕ}
+use mathlib.Core.Path.{◌≡◌, sym, ap, ◌∙◌}
+use mathlib.Core.List.{List}
+use native.Mathlib.Omega.{arith}
+use Rattle.answers.specs.Answers.{Outcome}
+use Rattle.answers.specs.Missing.{payload_out}
+use Rattle.answers.specs.Results.{Result}
+use Rattle.bits.specs.Bits.{payload, read_at, read_or}
+use Rattle.bits.proofs.BitLaws.{within_value, within_missing, never_wide}
+use Rattle.aec.specs.Bins.{settle_of, start_of}
+use Rattle.aec.specs.Inside.{settled_says}
+use Rattle.aec.specs.declared.Settled.{Settled}
+use Rattle.aec.specs.declared.State.{State}
+use Rattle.aec.proofs.StepLaws.{limit_passed, limit_kept, nine_bits}
+use Rattle.aec.proofs.GoodLaws.{settle_refused}
+use borrow.Author.Rules.{rules}
+use Rattle.aec.proofs.start.Goals as goal
+use Rattle.aec.proofs.start.Goals.{After-read_bits, After-settle}
+
+pub returns-then-bytes-gt-LIMIT : goal.returns-then-bytes-gt-LIMIT
+unfolding start_of
+returns-then-bytes-gt-LIMIT c = limit_passed _ _ c.if-bytes-gt-LIMIT.true
+
+pub settle-requires : goal.settle-requires
+settle-requires c =
+    let a = c.args in
+    let n = nine_bits a.bytes.now a.count _ (within_value _ 0 9 (omega arith) _ (sym c.read_bits.ensures ∙ c.in-Value.is)) in
+    (c.if-bytes-gt-LIMIT.false, n.0, omega arith)
+
+-- the answer goes by the read
+module _ (c : After-read_bits) where
+  abbrev bits : List ℕ
+  bits = payload c.args.bytes.now c.args.count
+
+  abbrev by_read : Result ℕ ℕ → Outcome State
+  by_read = read_or (λ vt. settle_of bits 255 vt 9) payload_out
+
+  answer : by_read (read_at bits 0 9) ≡ start_of c.args.bytes.now c.args.count
+  unfolding start_of
+  answer = limit_kept _ _ c.if-bytes-gt-LIMIT.false
+
+-- with the nine bits there, it is what they settle to
+settles : (c : After-settle) (x : Settled) → c.settle.result ≡ x →
+    settled_says x ≡ settle_of (bits c.before.before.before.before) 255 c.in-Value.value 9
+settles c x e = ap settled_says (sym e) ∙ c.settle.ensures
+
+started : (c : After-settle) →
+    settle_of (bits c.before.before.before.before) 255 c.in-Value.value 9 ≡ start_of c.args.bytes.now c.args.count
+started c =
+    let v = within_value (bits c.before.before.before.before) 0 9 (omega arith) _ (sym c.read_bits.ensures ∙ c.in-Value.is) in
+    ap (by_read c.before.before.before.before) (sym v) ∙ answer c.before.before.before.before
+
+pub returns-in-Done : goal.returns-in-Done
+returns-in-Done c = settles (goal.at.returns-in-Done c).After-settle _ c.in-Done.is ∙ started (goal.at.returns-in-Done c).After-settle
+
+pub returns-in-Refused : goal.returns-in-Refused
+returns-in-Refused c =
+    let l = bits (goal.at.returns-in-Refused c).After-read_bits in
+    let v = c.in-Value.value in
+    settle_refused l 255 v 9 c.in-Refused.field-0 (settles (goal.at.returns-in-Refused c).After-settle _ c.in-Refused.is) ∙ started (goal.at.returns-in-Refused c).After-settle
+
+pub returns-in-Missing : goal.returns-in-Missing
+returns-in-Missing c =
+    let m = within_missing (bits (goal.at.returns-in-Missing c).After-read_bits) 0 9 (omega arith) _ (sym c.read_bits.ensures ∙ c.in-Missing.is) in
+    ap (by_read (goal.at.returns-in-Missing c).After-read_bits) (sym m) ∙ answer (goal.at.returns-in-Missing c).After-read_bits
+
+pub returns-in-TooWide : goal.returns-in-TooWide
+returns-in-TooWide c = never_wide (bits (goal.at.returns-in-TooWide c).After-read_bits) 0 9 (omega arith) (sym c.read_bits.ensures ∙ c.in-TooWide.is)

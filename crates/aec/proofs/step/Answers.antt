@@ -1,0 +1,16 @@
+-- A bin that was predicted, or was not.
+use mathlib.Core.Path.{sym, ◌∙◌}
+use Rattle.aec.proofs.StepLaws.{bin_hit}
+use borrow.Author.Rules.{rules}
+use Rattle.aec.proofs.step.Goals as goal
+
+pub quick-requires : goal.quick-requires
+quick-requires c =
+    let e = c.requires in
+    (e.0, e.1, e.2, sym c.misses.ensures ∙ c.if-misses.true, e.3)
+
+pub returns-then-misses : goal.returns-then-misses
+returns-then-misses c = c.quick.ensures
+
+pub returns : goal.returns
+returns c = bin_hit _ _ _ _ (sym c.misses.ensures ∙ c.if-misses.false)

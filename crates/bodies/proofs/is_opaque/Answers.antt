@@ -1,0 +1,45 @@
+-- The scope and the number decide.
+use Prim.Native.Nat.{ℕ}
+use mathlib.Core.Path.{◌≡◌, refl, sym, ap, ◌∙◌}
+use mathlib.Core.Bool.{Bool, ◌&&◌, not}
+use borrow.Author.Tests.{eq-eqb, ne_eqb}
+use lib.Dec.{eqb}
+use Rattle.answers.specs.Results.{Result, good, bad}
+use Rattle.bits.specs.Bits.{read_says}
+use Rattle.bits.proofs.BitLaws.{says_same, says_wide}
+use Rattle.bodies.specs.Extensions.{is_opaque}
+use Rattle.bodies.specs.Reader.{number_of}
+use Rattle.bodies.specs.declared.Scope.{Scope}
+use Rattle.bodies.proofs.NumberLaws.{opaque_read, opaque_read_lem}
+use borrow.Author.Rules.{rules}
+use Rattle.bodies.proofs.is_opaque.Goals as goal
+use Rattle.bodies.proofs.is_opaque.Goals.{After-number_of, In-Head}
+
+opaque-by : (c : After-number_of) (scope : Scope) (r : Result ℕ ℕ) → c.args.scope ≡ scope → c.number_of.result ≡ read_says r →
+    opaque_read scope r ≡ is_opaque c.args.scope c.args.body.now
+opaque-by c scope r p e =
+    let a = c.args in
+    ap (λ (p : Scope). opaque_read p r) (sym p) ∙ sym (opaque_read_lem a.scope a.body.now r (says_same (number_of a.body.now) r (sym c.number_of.ensures ∙ e)))
+
+-- in a head
+module _ (c : In-Head) where
+  abbrev number : ℕ
+  number = c.in-Value.number
+
+  in_head : not (eqb number 4) && not (eqb number 2) ≡ is_opaque c.args.scope c.args.body.now
+  in_head = opaque-by c.before.before.before.before.before _ (good number) c.in-Head.is c.in-Value.is
+
+pub returns-then-number-ne4 : goal.returns-then-number-ne4
+returns-then-number-ne4 c = let n = number (goal.at.returns-then-number-ne4 c).In-Head in ap (λ (t : Bool). not t && not (eqb n 2)) (sym (ne_eqb n 4 c.if-number-ne4.true)) ∙ in_head (goal.at.returns-then-number-ne4 c).In-Head
+
+pub returns-else-number-ne4 : goal.returns-else-number-ne4
+returns-else-number-ne4 c = let n = number (goal.at.returns-else-number-ne4 c).In-Head in let four = eq-eqb n 4 c.if-number-ne4.false in ap not four ∙ ap (λ (t : Bool). not t && not (eqb n 2)) (sym four) ∙ in_head (goal.at.returns-else-number-ne4 c).In-Head
+
+pub returns-in-Picture : goal.returns-in-Picture
+returns-in-Picture c = opaque-by (goal.at.returns-in-Picture c).After-number_of _ (good c.in-Value.number) c.in-Picture.is c.in-Value.is
+
+pub returns-in-Missing : goal.returns-in-Missing
+returns-in-Missing c = opaque-by (goal.at.returns-in-Missing c).After-number_of _ (bad c.in-Missing.field-0) refl c.in-Missing.is
+
+pub returns-in-TooWide : goal.returns-in-TooWide
+returns-in-TooWide c = says_wide (number_of c.args.body.now) (sym c.number_of.ensures ∙ c.in-TooWide.is)

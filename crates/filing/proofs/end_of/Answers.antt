@@ -1,0 +1,10 @@
+-- The span that was kept leads to the end, or the end is found.
+use Prim.Native.Nat.{ℕ, ◌+◌}
+use mathlib.Core.Path.{◌∙◌, ap}
+use borrow.Author.Rules.{rules}
+use Rattle.filing.proofs.end_of.Goals as goal
+
+pub returns : goal.returns
+returns c =
+    let span = c.Span-of.ensures.0 in
+    ap (λ (n : ℕ). c.args.at + n) span ∙ c.requires.1 (λ z. c.if-span-eq0.false (span ∙ z))

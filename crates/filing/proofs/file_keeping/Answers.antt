@@ -1,0 +1,52 @@
+-- The order of the tests, and then the second pass.
+use Prim.Native.Nat.{ℕ}
+use mathlib.Core.Path.{◌≡◌, refl, sym, ap, ◌∙◌, subst}
+use mathlib.Core.List.{List}
+use native.Mathlib.Omega.{arith}
+use borrow.Author.Rules.{rules}
+use lib.ListN.{length}
+use Rattle.answers.specs.Answers.{Outcome, done, refused}
+use Rattle.answers.specs.Results.{good, bad}
+use Rattle.grammar.specs.Rows.{Placed, rows_from}
+use Rattle.grammar.specs.Reader.{Walk, walk, said}
+use Rattle.grammar.proofs.Filing.{said_done}
+use Rattle.grammar.proofs.Refusals.{said_refused}
+use Rattle.filing.specs.Filing.{words_after, checked_says}
+use Rattle.filing.specs.Inside.{Kept, KeptBy}
+use Rattle.filing.specs.declared.Totals.{Totals}
+use Rattle.filing.proofs.Demand.{walk_good, into_bad, into_full, into_good, settled}
+use Rattle.filing.proofs.file_keeping.Goals as goal
+use Rattle.filing.proofs.file_keeping.Goals.{In-Good}
+
+-- a stream that was counted: its units
+module _ (k : In-Good) where
+  found : (ms : List Placed) × (walk counted.before.before.before.before.before.args.stream.now ≡ good ms) × (length ms ≡ k.in-Good.units)
+  found = said_done length (walk counted.before.before.before.before.before.args.stream.now) _ (sym k.check_keeping.ensures.0 ∙ ap checked_says k.in-Good.is)
+
+-- the spans that were kept of them
+kept : (k : In-Good) → Kept k.args.stream.now k.check_keeping.new.1.0 (length (found k).0)
+kept k =
+    let s = k.args.stream.now in
+    let spans = k.check_keeping.new.1.0 in
+    subst (Kept s spans) (sym (found k).2) (subst (KeptBy s spans) k.in-Good.is k.check_keeping.ensures.1)
+
+pub returns-then-rows-units : goal.returns-then-rows-units
+returns-then-rows-units c = let a = c.args in let f = found (goal.at.returns-then-rows-units c).In-Good in let l = f.2 in settled a.stream.now a.rows.now _ _ _ (into_full a.stream.now _ f.0 f.1 (omega (arith, c.if-rows-units.true))) refl refl
+
+pub write_rows-requires : goal.write_rows-requires
+write_rows-requires c =
+    let a = c.args in
+    let f = found (goal.at.write_rows-requires c).In-Good-2 in
+    let l = f.2 in
+    let d = walk_good a.stream.now f.0 f.1 in
+    record { all = f.0; walked = d.1; short = d.0; room = omega (arith, c.if1.false); kept = kept (goal.at.write_rows-requires c).In-Good-2 }
+
+pub returns-else-rows-units : goal.returns-else-rows-units
+returns-else-rows-units c = let a = c.args in let f = found (goal.at.returns-else-rows-units c).In-Good-2 in let l = f.2 in settled a.stream.now a.rows.now _ _ (good f.0) (into_good a.stream.now _ f.0 f.1 (omega (arith, c.if1.false))) (let answer : ℕ → Outcome Totals = λ n. done (record { units = n }) in ap answer (sym f.2)) (c.write_rows.ensures ∙ ap (λ (x : Walk). words_after (said (rows_from 0) x) a.rows.now) (walk_good a.stream.now f.0 f.1).1)
+
+pub returns-in-Refused : goal.returns-in-Refused
+returns-in-Refused c =
+    let a = c.args in
+    let g = c.refusal-1.given in
+    let k = said_refused length (walk a.stream.now) _ _ (sym c.check_keeping.ensures.0 ∙ ap checked_says g.1) in
+    settled a.stream.now a.rows.now _ _ (bad k.0) (into_bad a.stream.now _ k.0 k.1) (λ i. refused (k.2 i) (k.3 i)) refl

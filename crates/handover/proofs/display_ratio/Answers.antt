@@ -1,0 +1,11 @@
+-- The entry of the table, or nothing.
+use mathlib.Core.Path.{ap}
+use borrow.Author.Rules.{rules}
+use Rattle.answers.specs.Answers.{done}
+use Rattle.handover.specs.Numbers.{ratio_numbers}
+use Rattle.handover.proofs.HandedLaws.{handed_by}
+use Rattle.handover.proofs.display_ratio.Goals as goal
+
+pub returns : goal.returns
+returns c =
+    handed_by c.args.numbers.now (ap (λ x. done (ratio_numbers x)) c.display_ratio.ensures) c.hand_ratio.ensures

@@ -1,0 +1,16 @@
+-- The numbers that are written, and those that are left as they were.
+use Prim.Native.Nat.{ℕ, ◌+◌, ◌-◌, ◌≤◌}
+use mathlib.Core.Path.{◌≡◌, refl, sym, ap, ◌∙◌}
+use mathlib.Core.List.{◌++◌}
+use native.Mathlib.Omega.{arith}
+use borrow.Author.Rules.{rules}
+use lib.ListN.{length, get_or, take, drop, set, length-set}
+use lib.Seq.{take_all}
+use Rattle.handover.proofs.HandedLaws.{write_step}
+use Rattle.handover.proofs.write_over.Given as goal
+
+abbrev pub invariant-loop-i : goal.invariant-loop-i
+invariant-loop-i l = (l.i ≤ length l.values) × (length l.numbers ≡ length l.initial.numbers) × (l.numbers ≡ take l.i l.values ++ drop l.i l.initial.numbers)
+
+abbrev pub decreases-loop-i : goal.decreases-loop-i
+decreases-loop-i l = length l.values - l.i

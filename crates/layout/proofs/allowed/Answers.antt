@@ -1,0 +1,38 @@
+-- Each kind of rule tests what its definition says.
+use Prim.Native.Nat.{ℕ}
+use mathlib.Core.Path.{◌≡◌, sym, ap, ◌∙◌}
+use mathlib.Core.Bool.{Bool, ◌&&◌, not}
+use lib.Dec.{eqb}
+use Rattle.layout.specs.Reader.{allows}
+use Rattle.layout.specs.declared.Values.{Values}
+use borrow.Author.Rules.{rules}
+use Rattle.layout.proofs.allowed.Goals as goal
+
+allows-same : (rule other : Values) (v : ℕ) → rule ≡ other → allows other v ≡ allows rule v
+allows-same rule other v e = sym (ap (λ (r : Values). allows r v) e)
+
+pub returns-in-Only : goal.returns-in-Only
+unfolding allows
+returns-in-Only c = allows-same _ _ c.args.v c.in-Only.is
+
+pub returns-in-But : goal.returns-in-But
+unfolding allows
+returns-in-But c = allows-same _ _ c.args.v c.in-But.is
+
+pub returns-in-Within : goal.returns-in-Within
+unfolding allows
+returns-in-Within c = c.within.ensures ∙ allows-same _ _ c.args.v c.in-Within.is
+
+pub returns-then-within : goal.returns-then-within
+unfolding allows
+returns-then-within c =
+    let v = c.args.v in
+    let g = c.values-in-WithinBut-1.given in
+    ap (λ (t : Bool). t && not (eqb v g.0.1.1.0)) (sym c.if-within.true ∙ c.within-in-WithinBut.ensures) ∙ allows-same _ _ v g.1
+
+pub returns-else-within : goal.returns-else-within
+unfolding allows
+returns-else-within c =
+    let v = c.args.v in
+    let g = c.values-in-WithinBut-1.given in
+    c.if-within.false ∙ ap (λ (t : Bool). t && not (eqb v g.0.1.1.0)) (sym c.if-within.false ∙ c.within-in-WithinBut.ensures) ∙ allows-same _ _ v g.1

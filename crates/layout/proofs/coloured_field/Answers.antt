@@ -1,0 +1,38 @@
+-- An arm's field stands in the layout at the arm's index.
+use mathlib.Core.Path.{refl}
+use Rattle.layout.specs.Layouts.{coloured_fields}
+use Rattle.layout.proofs.LayoutLaws.{arm, last_arm}
+use Rattle.layout.proofs.coloured_field.Goals as goal
+
+pub returns-in-0 : goal.returns-in-0
+returns-in-0 c = arm coloured_fields _ 0 _ refl c.in-0.is
+
+pub returns-in-1 : goal.returns-in-1
+returns-in-1 c = arm coloured_fields _ 1 _ refl c.in-1.is
+
+pub returns-in-2 : goal.returns-in-2
+returns-in-2 c = arm coloured_fields _ 2 _ refl c.in-2.is
+
+pub returns-in-3 : goal.returns-in-3
+returns-in-3 c = arm coloured_fields _ 3 _ refl c.in-3.is
+
+pub returns-in-4 : goal.returns-in-4
+returns-in-4 c = arm coloured_fields _ 4 _ refl c.in-4.is
+
+pub returns-in-5 : goal.returns-in-5
+returns-in-5 c = arm coloured_fields _ 5 _ refl c.in-5.is
+
+pub returns-in-6 : goal.returns-in-6
+returns-in-6 c = arm coloured_fields _ 6 _ refl c.in-6.is
+
+pub returns-in-7 : goal.returns-in-7
+returns-in-7 c = arm coloured_fields _ 7 _ refl c.in-7.is
+
+pub returns-in-8 : goal.returns-in-8
+returns-in-8 c = arm coloured_fields _ 8 _ refl c.in-8.is
+
+pub returns-in-9 : goal.returns-in-9
+returns-in-9 c = arm coloured_fields _ 9 _ refl c.in-9.is
+
+pub returns-in_default : goal.returns-in_default
+returns-in_default c = last_arm coloured_fields c.args.i 10 _ refl c.in_default.rest c.requires

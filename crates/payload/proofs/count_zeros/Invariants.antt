@@ -1,0 +1,19 @@
+-- The zeros that are left to count, after those that are counted, make the whole.
+use Prim.Native.Nat.{ℕ, ◌+◌, ◌-◌, ◌≤◌, ◌<◌}
+use mathlib.Core.Path.{◌≡◌, refl, sym, ap, ◌∙◌}
+use mathlib.Core.List.{List, ◌∷◌}
+use native.Mathlib.Omega.{arith}
+use borrow.Author.Rules.{rules}
+use borrow.Author.Tests.{eq-eqb}
+use lib.ListN.{length, drop}
+use Rattle.bits.specs.Bits.{payload}
+use Rattle.bits.proofs.BitLaws.{length_payload, bit_read, bit_missing, bit_inside}
+use Rattle.payload.specs.Reader.{zeros_on}
+use Rattle.payload.proofs.GolombLaws.{zeros_from, zeros_more, zeros_one, zeros_out}
+use Rattle.payload.proofs.count_zeros.Given as goal
+
+abbrev pub invariant-loop-z : goal.invariant-loop-z
+invariant-loop-z l = (l.z ≤ 32) × (zeros_on 0 l.place (drop l.place (payload l.bytes l.count)) ≡ zeros_from l.z l.at (payload l.bytes l.count))
+
+abbrev pub decreases-loop-z : goal.decreases-loop-z
+decreases-loop-z l = 32 - l.z

@@ -1,0 +1,108 @@
+-- The answer goes by the zeros, and then by the one read of the bits after the 1.
+use Prim.Native.Nat.{ℕ, ◌+◌, ◌-◌, ◌*◌, ◌%◌, ◌^◌, ◌≤◌, ◌<◌}
+use mathlib.Core.Path.{◌≡◌, refl, sym, ap, ◌∙◌}
+use native.Mathlib.Omega.{arith}
+use native.Mathlib.Nat.{one-mul}
+use borrow.Author.Rules.{rules}
+use lib.Pow.{shl_exact, pow_pos}
+use lib.ListN.{length}
+use Rattle.answers.specs.Answers.{Outcome, done}
+use Rattle.answers.specs.Results.{good}
+use Rattle.bits.specs.Bits.{payload, read_at}
+use Rattle.bits.specs.declared.Read.TheVariants.{Value}
+use Rattle.bits.proofs.BitLaws.{within_value, within_missing, never_wide}
+use Rattle.payload.specs.Golomb.{Numbered}
+use Rattle.payload.specs.Reader.{golomb_after, golomb, number_of}
+use Rattle.payload.proofs.GolombLaws.{golomb_long, golomb_after_lem, zeros_bounds, number_lt}
+use Rattle.payload.proofs.unsigned_golomb.Goals as goal
+use Rattle.payload.proofs.unsigned_golomb.Goals.{After-count_zeros, After-read_bits}
+
+pub returns-then-bytes-gt-LIMIT : goal.returns-then-bytes-gt-LIMIT
+returns-then-bytes-gt-LIMIT c = let a = c.args in golomb_long a.bytes.now a.count a.place c.if-bytes-gt-LIMIT.true
+
+-- the answer is golomb's, at the zeros that were counted
+counted : (c : After-count_zeros) →
+    let a = c.args in
+    golomb_after (payload a.bytes.now a.count) c.count_zeros.result ≡ golomb a.bytes.now a.count a.place
+counted c =
+    let a = c.args in
+    golomb_after_lem a.bytes.now a.count a.place c.count_zeros.result c.if-bytes-gt-LIMIT.false c.count_zeros.ensures
+
+-- with zeros before a 1: the answer is that of the read after it
+module _ (c : After-read_bits) where
+  abbrev z : ℕ
+  z = c.in-Before.z
+
+  abbrev at : ℕ
+  at = c.in-Before.at
+
+  read_answer :
+      let a = c.args in
+      number_of z at (read_at (payload a.bytes.now a.count) at z) ≡ golomb a.bytes.now a.count a.place
+  read_answer =
+      let a = c.args in
+      ap (golomb_after (payload a.bytes.now a.count)) (sym c.in-Before.is) ∙ counted args
+
+  bounds :
+      let a = c.args in
+      (z ≤ 31) × (at ≤ length a.bytes.now * 8)
+  bounds =
+      let a = c.args in
+      zeros_bounds a.bytes.now a.count a.place z at (sym c.count_zeros.ensures ∙ c.in-Before.is)
+
+  -- what was read is the read's own answer, since at most 31 bits were asked for
+  read-value : (b : ℕ) → c.read_bits.result ≡ Value b →
+      let a = c.args in
+      read_at (payload a.bytes.now a.count) at z ≡ good b
+  read-value b e = let h = bounds.0 in within_value _ at z (omega arith) b (sym c.read_bits.ensures ∙ e)
+
+  -- the shift loses nothing
+  base : (1 * 2 ^ z) % 4294967296 ≡ 2 ^ z
+  base = let h = bounds.0 in shl_exact 1 z 32 (omega arith) (omega arith) ∙ simp one-mul
+
+pub overflow_shl-result : goal.overflow_shl-result
+overflow_shl-result c = let b = bounds (goal.at.overflow_shl-result c).After-read_bits in omega (arith, b.0)
+
+pub overflow_sub-result : goal.overflow_sub-result
+overflow_sub-result c = omega (arith, base (goal.at.overflow_sub-result c).After-read_bits, pow_pos (z (goal.at.overflow_sub-result c).After-read_bits))
+
+pub overflow_add-result : goal.overflow_add-result
+overflow_add-result c =
+    let a = c.args in
+    let n = number_lt a.bytes.now a.count a.place (z (goal.at.overflow_add-result c).After-read_bits) (at (goal.at.overflow_add-result c).After-read_bits) c.in-Value.b (bounds (goal.at.overflow_add-result c).After-read_bits).0 (read-value (goal.at.overflow_add-result c).After-read_bits _ c.in-Value.is) in
+    omega (arith, base (goal.at.overflow_add-result c).After-read_bits)
+
+pub overflow_add-result-in-Value : goal.overflow_add-result-in-Value
+overflow_add-result-in-Value c =
+    let b = bounds (goal.at.overflow_add-result-in-Value c).After-read_bits in
+    omega (arith, b.0, b.1, c.if-bytes-gt-LIMIT.false)
+
+pub returns-in-Value : goal.returns-in-Value
+returns-in-Value c =
+    let g = c.b-1.given in
+    let answer : ℕ → Outcome (Numbered ℕ) = λ p. done (record { number = p - 1 + g.0.0; next = at (goal.at.returns-in-Value c).After-read_bits + z (goal.at.returns-in-Value c).After-read_bits }) in
+    ap answer (base (goal.at.returns-in-Value c).After-read_bits)
+    ∙ ap (number_of (z (goal.at.returns-in-Value c).After-read_bits) (at (goal.at.returns-in-Value c).After-read_bits)) (sym (read-value (goal.at.returns-in-Value c).After-read_bits _ g.1))
+    ∙ read_answer (goal.at.returns-in-Value c).After-read_bits
+
+pub returns-in-Missing-read_bits : goal.returns-in-Missing-read_bits
+returns-in-Missing-read_bits c =
+    let g = c.missing-1.given in
+    let h = (bounds (goal.at.returns-in-Missing-read_bits c).After-read_bits).0 in
+    let m = within_missing _ (at (goal.at.returns-in-Missing-read_bits c).After-read_bits) (z (goal.at.returns-in-Missing-read_bits c).After-read_bits) (omega arith) _ (sym c.read_bits.ensures ∙ g.1) in
+    ap (number_of (z (goal.at.returns-in-Missing-read_bits c).After-read_bits) (at (goal.at.returns-in-Missing-read_bits c).After-read_bits)) (sym m) ∙ read_answer (goal.at.returns-in-Missing-read_bits c).After-read_bits
+
+pub returns-in-TooWide : goal.returns-in-TooWide
+returns-in-TooWide c =
+    let h = (bounds (goal.at.returns-in-TooWide c).After-read_bits).0 in
+    never_wide _ (at (goal.at.returns-in-TooWide c).After-read_bits) (z (goal.at.returns-in-TooWide c).After-read_bits) (omega arith) (sym c.read_bits.ensures ∙ c.in-TooWide.is)
+
+pub returns-in-TooMany : goal.returns-in-TooMany
+returns-in-TooMany c =
+    let a = c.args in
+    ap (golomb_after (payload a.bytes.now a.count)) (sym c.in-TooMany.is) ∙ counted (goal.at.returns-in-TooMany c).After-count_zeros
+
+pub returns-in-Missing : goal.returns-in-Missing
+returns-in-Missing c =
+    let a = c.args in
+    ap (golomb_after (payload a.bytes.now a.count)) (sym c.in-Missing.is) ∙ counted (goal.at.returns-in-Missing c).After-count_zeros

@@ -1,0 +1,8 @@
+-- There are at most 64 leading zeros.
+use native.Mathlib.Omega.{arith}
+use borrow.Author.Rules.{rules}
+use lib.Count.{leading_le}
+use Rattle.renorm.proofs.needed.Goals as goal
+
+pub overflow_add-sum : goal.overflow_add-sum
+overflow_add-sum c = omega (arith, leading_le 64 c.args.value)

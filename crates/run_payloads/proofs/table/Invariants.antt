@@ -1,0 +1,10 @@
+-- Each entry of the lent table in turn.
+use Prim.Native.Nat.{◌-◌, ◌≤◌}
+use borrow.Author.Rules.{rules}
+use Rattle.run_payloads.proofs.table.Given as goal
+
+abbrev pub invariant-loop-k : goal.invariant-loop-k
+invariant-loop-k l = l.k ≤ 1024
+
+abbrev pub decreases-loop-k : goal.decreases-loop-k
+decreases-loop-k l = 1024 - l.k

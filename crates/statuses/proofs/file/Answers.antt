@@ -1,0 +1,14 @@
+-- The count of units, or the refusal with its offset.
+use borrow.Author.Rules.{rules}
+use Rattle.filing.specs.Filing.{filing_says}
+use Rattle.statuses.specs.Answers.{filed_answer}
+use Rattle.answers.proofs.OutcomeLaws.{arm_answers}
+use Rattle.statuses.proofs.file.Goals as goal
+
+pub returns-in-Filed : goal.returns-in-Filed
+returns-in-Filed c =
+    (arm_answers filed_answer filing_says c.in-Filed.is c.file.ensures.0 c.handed.ensures, c.file.ensures.1.0)
+
+pub returns-in-Refused : goal.returns-in-Refused
+returns-in-Refused c =
+    (arm_answers filed_answer filing_says c.in-Refused.is c.file.ensures.0 c.refused_stream.ensures, c.file.ensures.1.0)

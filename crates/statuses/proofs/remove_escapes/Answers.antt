@@ -1,0 +1,18 @@
+-- The bit count, or the refusal.
+use borrow.Author.Rules.{rules}
+use Rattle.payload.specs.Escape.{removed_says}
+use Rattle.statuses.specs.Answers.{counted}
+use Rattle.answers.proofs.OutcomeLaws.{arm_answers}
+use Rattle.statuses.proofs.remove_escapes.Goals as goal
+
+pub returns-in-Done : goal.returns-in-Done
+returns-in-Done c =
+    (arm_answers counted removed_says c.in-Done.is c.remove_escapes.ensures.0 c.handed.ensures, c.remove_escapes.ensures.1)
+
+pub returns-in-Full : goal.returns-in-Full
+returns-in-Full c =
+    (arm_answers counted removed_says c.in-Full.is c.remove_escapes.ensures.0 c.refusal.ensures, c.remove_escapes.ensures.1)
+
+pub returns-in-TooLong : goal.returns-in-TooLong
+returns-in-TooLong c =
+    (arm_answers counted removed_says c.in-TooLong.is c.remove_escapes.ensures.0 c.refusal-in-TooLong.ensures, c.remove_escapes.ensures.1)

@@ -1,0 +1,13 @@
+-- The bytes before the index have been put.
+use Prim.Native.Nat.{◌-◌, ◌≤◌}
+use borrow.Author.Rules.{rules}
+use lib.ListN.{length, take}
+use Rattle.text.specs.Text.{Put}
+use Rattle.text.proofs.PutLaws.{put_none, put_more, put_all, put_length}
+use Rattle.text.proofs.put.Given as goal
+
+abbrev pub invariant-loop-k : goal.invariant-loop-k
+invariant-loop-k l = (l.k ≤ length l.s) × Put l.at (take l.k l.s) l.initial.out l.here l.out
+
+abbrev pub decreases-loop-k : goal.decreases-loop-k
+decreases-loop-k l = length l.s - l.k

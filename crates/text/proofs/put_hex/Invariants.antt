@@ -1,0 +1,15 @@
+-- The pairs of the bytes before the index have been put.
+use Prim.Native.Nat.{◌-◌, ◌≤◌}
+use mathlib.Core.Path.{sym}
+use borrow.Author.Rules.{rules}
+use lib.ListN.{length, take}
+use Rattle.text.specs.Text.{Put, pairs}
+use Rattle.text.proofs.PutLaws.{put_none, put_then, put_same, put_length}
+use Rattle.text.proofs.SpellingLaws.{pairs_none, pairs_more, hex_none, hex_some}
+use Rattle.text.proofs.put_hex.Given as goal
+
+abbrev pub invariant-loop-k : goal.invariant-loop-k
+invariant-loop-k l = (l.k ≤ length l.s) × Put l.at (pairs (take l.k l.s)) l.initial.out l.here l.out
+
+abbrev pub decreases-loop-k : goal.decreases-loop-k
+decreases-loop-k l = length l.s - l.k

@@ -1,0 +1,49 @@
+-- The kind is found once: it chooses the step and the row's length.
+use Prim.Native.Nat.{ℕ}
+use mathlib.Core.Path.{◌≡◌, sym, ap, ◌∙◌}
+use mathlib.Core.Bool.{cond}
+use borrow.Author.Rules.{rules}
+use lib.ListN.{length}
+use Rattle.answers.specs.Answers.{Outcome, done}
+use Rattle.startcode.specs.Kinds.{kind_of, kind_says}
+use Rattle.startcode.specs.declared.Kind.{Kind}
+use Rattle.bodies.specs.declared.Scope.{Scope}
+use Rattle.grammar.specs.Grammar.{StreamUnit}
+use Rattle.grammar.specs.Rows.{placed, trimmed, whole_body, row_length}
+use Rattle.grammar.specs.Reader.{choose, table, by_kind, step, scope_in}
+use Rattle.grammar.specs.declared.Step.{Step}
+use Rattle.units.specs.Reader.{next_of, unit_from}
+use Rattle.units.specs.declared.UnitAnswer.TheVariants as answer
+use Rattle.units.proofs.LengthLaws.{length_same}
+use Rattle.units.proofs.unit_of.Goals as goal
+use Rattle.units.proofs.unit_of.Goals.{After-in_state, Start}
+
+abbrev unit-of : Start → StreamUnit
+unit-of s = record { code = s.args.code; body = s.args.body.now }
+
+-- a unit whose kind is known
+module _ (t : After-in_state) where
+  abbrev u : StreamUnit
+  u = unit-of start
+
+  abbrev the-length : ℕ
+  the-length = row_length (placed (scope_in named.before.before.before.before.args.state u) u)
+
+  is : kind_of u.code ≡ done t.in-Is.kind
+  is = sym t.kind_of.ensures ∙ ap kind_says t.in-Is.is
+
+  answered : {y : Step} → t.in_state.result ≡ y → next_of y named.before.before.before.before.args.end the-length ≡ unit_from named.before.before.before.before.args.state u named.before.before.before.before.args.end
+  unfolding step
+  answered e =
+      ap (λ (y : Step). next_of y named.before.before.before.before.args.end the-length)
+      (sym e ∙ t.in_state.ensures ∙ ap (λ (o : Outcome Kind). by_kind o (λ k. choose k (table named.before.before.before.before.args.state u))) (sym is))
+
+pub returns-in-Go : goal.returns-in-Go
+returns-in-Go c = let g = c.next-1.given in let k = c.kind-1.given.0.0 in let b = (u (goal.at.returns-in-Go c).After-in_state).body in ap (λ (n : ℕ). answer.Next g.0.0 c.args.end n) (c.length_in.ensures ∙ ap (λ (p : Scope). length (cond (whole_body (done k) p b) b (trimmed b))) c.scope_in-scope.ensures ∙ length_same c.args.state k (u (goal.at.returns-in-Go c).After-in_state) (is (goal.at.returns-in-Go c).After-in_state)) ∙ answered (goal.at.returns-in-Go c).After-in_state g.1
+
+pub returns-in-Stop : goal.returns-in-Stop
+returns-in-Stop c = answered (goal.at.returns-in-Stop c).After-in_state c.in-Stop.is
+
+pub returns-in-Unknown : goal.returns-in-Unknown
+unfolding step
+returns-in-Unknown c = rw (sym c.kind_of.ensures ∙ ap kind_says c.in-Unknown.is)
