@@ -16,4 +16,4 @@ pub returns-in-IPicture : goal.returns-in-IPicture
 returns-in-IPicture c = rw c.in-IPicture.is c.picture_step.ensures
 
 pub returns-in_default : goal.returns-in_default
-returns-in_default c = let o = last_arm (kind.UserData ∷ kind.Extension ∷ kind.IPicture ∷ []) c.args.kind c.in_default.keys4 refl in rw (o.0, o.1.0, o.1.1.0)
+returns-in_default c = let o = last_arm (kind.UserData ∷ kind.Extension ∷ kind.IPicture ∷ []) c.args.kind c.in_default.in_default-own.keys4 refl in rw (o.0, o.1.0, o.1.1.0)

@@ -16,4 +16,4 @@ pub returns-in-Extension : goal.returns-in-Extension
 returns-in-Extension c = rw c.in-Extension.is c.extension_step.ensures
 
 pub returns-in_default : goal.returns-in_default
-returns-in_default c = let o = last_arm (kind.Slice ∷ kind.UserData ∷ kind.Extension ∷ []) c.args.kind c.in_default.keys4 refl in rw (o.0, o.1.0, o.1.1.0)
+returns-in_default c = let o = last_arm (kind.Slice ∷ kind.UserData ∷ kind.Extension ∷ []) c.args.kind c.in_default.in_default-own.keys4 refl in rw (o.0, o.1.0, o.1.1.0)

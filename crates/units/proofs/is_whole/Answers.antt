@@ -14,4 +14,4 @@ pub returns-in-Extension : goal.returns-in-Extension
 returns-in-Extension c = rw c.in-Extension.is c.is_opaque.ensures
 
 pub returns-in_default : goal.returns-in_default
-returns-in_default c = let o = last_arm (kind.UserData ∷ kind.Extension ∷ []) c.args.kind c.in_default.keys3 refl in let a = c.args in rw (not_whole a.kind a.scope a.body.now o.0 o.1.0)
+returns-in_default c = let o = last_arm (kind.UserData ∷ kind.Extension ∷ []) c.args.kind c.in_default.in_default-own.keys3 refl in let a = c.args in rw (not_whole a.kind a.scope a.body.now o.0 o.1.0)

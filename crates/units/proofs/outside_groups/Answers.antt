@@ -31,4 +31,4 @@ pub returns-else-ended-2 : goal.returns-else-ended-2
 returns-else-ended-2 c = rw (c.in-EditCode.is, c.if-ended-2.false)
 
 pub returns-in_default : goal.returns-in_default
-returns-in_default c = let o = last_arm (kind.SequenceHeader ∷ kind.EditCode ∷ []) c.args.kind c.in_default.keys3 refl in let a = c.args in neither a.ended a.kind _ o.0 o.1.0
+returns-in_default c = let o = last_arm (kind.SequenceHeader ∷ kind.EditCode ∷ []) c.args.kind c.in_default.in_default-own.keys3 refl in let a = c.args in neither a.ended a.kind _ o.0 o.1.0
