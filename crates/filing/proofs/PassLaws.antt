@@ -154,7 +154,7 @@ passed_refused s spans (checked.Refused w) why at e f = record { answer = e ∙ 
 -- ── scopes ──
 
 -- the kind of a unit that goes on settles the scope after it
-after_goes : {q q' : State} {u : StreamUnit} → Goes q u q' → scope_after (extension_scope q) (kind_of u.code) ≡ extension_scope q'
+after_goes : {u : StreamUnit} {q q' : State} → Goes q u q' → scope_after (extension_scope q) (kind_of u.code) ≡ extension_scope q'
 after_goes (sequence c k) = rw c refl
 after_goes (user c) = rw c refl
 after_goes (extension c k n) = rw c refl

@@ -6,5 +6,5 @@ use Rattle.filing.proofs.end_of.Goals as goal
 
 pub returns : goal.returns
 returns c =
-    let span = c.Span-of.ensures.0 in
+    let span = c.span_of-span.ensures.0 in
     ap (λ (n : ℕ). c.args.at + n) span ∙ c.requires.1 (λ z. c.if-span-eq0.false (span ∙ z))

@@ -24,10 +24,10 @@ module _ (k : In-Good) where
   found = said_done length (walk k.args.stream.now) _ (sym k.check_keeping.ensures.0 ∙ ap checked_says k.in-Good.is)
 
 -- the spans that were kept of them
-kept : (k : In-Good) → Kept k.args.stream.now k.check_keeping.new.1.0 (length (found k).0)
+kept : (k : In-Good) → Kept k.args.stream.now k.check_keeping.new.spans (length (found k).0)
 kept k =
     let s = k.args.stream.now in
-    let spans = k.check_keeping.new.1.0 in
+    let spans = k.check_keeping.new.spans in
     subst (Kept s spans) (sym (found k).2) (subst (KeptBy s spans) k.in-Good.is k.check_keeping.ensures.1)
 
 pub returns-then-rows-units : goal.returns-then-rows-units
@@ -36,13 +36,13 @@ returns-then-rows-units c = let a = c.args in let f = found (goal.at.returns-the
 pub write_rows-requires : goal.write_rows-requires
 write_rows-requires c =
     let a = c.args in
-    let f = found (goal.at.write_rows-requires c).In-Good-2 in
+    let f = found (goal.at.write_rows-requires c).In-Good in
     let l = f.2 in
     let d = walk_good a.stream.now f.0 f.1 in
-    record { all = f.0; walked = d.1; short = d.0; room = omega (arith, c.if1.false); kept = kept (goal.at.write_rows-requires c).In-Good-2 }
+    record { all = f.0; walked = d.1; short = d.0; room = omega (arith, c.if-rows-units.false); kept = kept (goal.at.write_rows-requires c).In-Good }
 
 pub returns-else-rows-units : goal.returns-else-rows-units
-returns-else-rows-units c = let a = c.args in let f = found (goal.at.returns-else-rows-units c).In-Good-2 in let l = f.2 in settled a.stream.now a.rows.now _ _ (good f.0) (into_good a.stream.now _ f.0 f.1 (omega (arith, c.if1.false))) (let answer : ℕ → Outcome Totals = λ n. done (record { units = n }) in ap answer (sym f.2)) (c.write_rows.ensures ∙ ap (λ (x : Walk). words_after (said (rows_from 0) x) a.rows.now) (walk_good a.stream.now f.0 f.1).1)
+returns-else-rows-units c = let a = c.args in let f = found (goal.at.returns-else-rows-units c).In-Good in let l = f.2 in settled a.stream.now a.rows.now _ _ (good f.0) (into_good a.stream.now _ f.0 f.1 (omega (arith, c.if-rows-units.false))) (let answer : ℕ → Outcome Totals = λ n. done (record { units = n }) in ap answer (sym f.2)) (c.write_rows.ensures ∙ ap (λ (x : Walk). words_after (said (rows_from 0) x) a.rows.now) (walk_good a.stream.now f.0 f.1).1)
 
 pub returns-in-Refused : goal.returns-in-Refused
 returns-in-Refused c =
