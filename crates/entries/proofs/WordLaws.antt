@@ -1,4 +1,4 @@
--- The laws of words: which arm is the last, and that what is read is the table's entry.
+-- The laws of words: those of a block, and that what is read is the table's entry.
 use Prim.Native.Nat.{ℕ, zero, suc, ◌+◌, ◌*◌, ◌/◌, ◌%◌, ◌≤◌, ◌<◌}
 use mathlib.Core.Path.{◌≡◌, refl, ap}
 use mathlib.Core.Bool.{Bool, true}
@@ -11,21 +11,6 @@ use Rattle.rates.specs.Rates.{next_lg, w_of, rates}
 use Rattle.rates.specs.declared.Rate.{Rate}
 use Rattle.rates.proofs.RateLaws.{of_each}
 use Rattle.entries.specs.Inside.{words_of, read_of}
-
--- ── the arm for all numbers that are left ──
-
--- x is none of the numbers below n
-abbrev NoneBelow : ℕ → ℕ → Type 0
-NoneBelow zero x = Unit {0}
-NoneBelow (suc n) x = NoneBelow n x × (x ≡ n → ⊥)
-
-past : (n x : ℕ) → NoneBelow n x → n ≤ x
-past zero x h = omega arith
-past (suc n) x (h, k) = let l = past n x h in omega (arith, k)
-
--- the next number is the one that is left
-pub last : (n x : ℕ) → NoneBelow n x → x < n + 1 → x ≡ n
-last n x h l = let p = past n x h in omega arith
 
 -- the words of m, among the b-th 32 of 256
 pub in_block : (m b : ℕ) → m / 32 % 8 ≡ b → words_of (32 * b + m % 32) ≡ words_of (m % 256)

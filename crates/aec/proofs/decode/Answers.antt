@@ -1,10 +1,12 @@
 -- A step by the context's own prediction, and its update, once nothing is refused.
 use Prim.Native.Nat.{ℕ}
 use mathlib.Core.Path.{◌≡◌, refl, sym, ap, subst, ◌∙◌}
+use mathlib.Core.List.{List}
 use native.Mathlib.Omega.{arith}
 use Rattle.answers.specs.Answers.{Outcome, done, and_then}
 use Rattle.bits.specs.Bits.{payload}
 use Rattle.contexts.specs.Contexts.{good_context}
+use Rattle.contexts.specs.declared.Context.{Context}
 use Rattle.aec.specs.Bins.{refused_first, bin_of, step_of, decode_of}
 use Rattle.aec.specs.Inside.{tried_says, updating}
 use Rattle.aec.specs.Inside.{checked_says}
@@ -15,11 +17,11 @@ use Rattle.aec.proofs.RangeLaws.{state_ranges}
 use Rattle.aec.proofs.StepLaws.{first_held, step_is}
 use borrow.Author.Rules.{rules}
 use Rattle.aec.proofs.decode.Goals as goal
-use Rattle.aec.proofs.decode.Goals.{After-guard, In-Done, In-Fine, Start}
+use Rattle.aec.proofs.decode.Goals.{After-guard, In-Done, In-Fine}
 
 -- the step
-abbrev stepping : Start → Unit {0} → Outcome (ℕ × State)
-stepping e _ = let a = e.args in step_of (payload a.bytes.now a.count) a.x (record { p = a.c.mps; lg = a.c.lg })
+abbrev stepping : List ℕ → State → Context → Unit {0} → Outcome (ℕ × State)
+stepping bits x c _ = step_of bits x (record { p = c.mps; lg = c.lg })
 
 -- what is refused first, by the definition's test of the context
 first : (c : After-guard) → let a = c.args in
@@ -30,7 +32,9 @@ first c =
 
 fine : (c : In-Fine) → let a = c.args in
     done tt ≡ refused_first a.bytes.now a.count a.x (good_context a.c)
-fine c = ap checked_says (sym c.in-Fine.is) ∙ first c.before.before
+fine c =
+    let a = c.args in
+    ap checked_says (sym c.in-Fine.is) ∙ c.guard.ensures ∙ ap (refused_first a.bytes.now a.count a.x) c.good_context.ensures
 
 pub split_range-requires : goal.split_range-requires
 split_range-requires c =
@@ -56,8 +60,8 @@ renewed-requires c = (first_held _ _ _ _ (sym (fine (goal.at.renewed-requires c)
 
 -- the quick step's answer, by the definition's split
 stepped : (c : In-Done) →
-    let b = c.bin-1.given in
-    done (b.0.0, b.0.1.0) ≡ stepping c.before.before.before.before.before.before.before.before.before.before tt
+    let a = c.args in
+    done (c.in-Done.bin, c.in-Done.next) ≡ stepping (payload a.bytes.now a.count) a.x a.c tt
 stepped c =
     let a = c.args in
     subst (λ t. tried_says t (bin_of (payload a.bytes.now a.count) a.x a.c.mps c.split_range.result)) c.in-Done.is c.step.ensures
@@ -66,10 +70,12 @@ stepped c =
 pub returns-in-Done : goal.returns-in-Done
 unfolding decode_of
 returns-in-Done c =
-    let b = c.bin-1.given in
-    let good = (first_held _ _ _ _ (sym (fine (goal.at.returns-in-Done c).In-Fine))).2 in
-    ap (λ d. done (b.0.0, b.0.1.0, d)) (c.updated.ensures ∙ updated_is _ _ good)
-    ∙ goes_on (stepping (goal.at.returns-in-Done c).Start) (λ _. updating c.args.c) (fine (goal.at.returns-in-Done c).In-Fine) (b.0.0, b.0.1.0) (stepped (goal.at.returns-in-Done c).In-Done)
+    let r = (goal.at.returns-in-Done c).In-Fine in
+    let b = c.in-Done in
+    let a = c.args in
+    let good = (first_held _ _ _ _ (sym (fine r))).2 in
+    ap (λ d. done (b.bin, b.next, d)) (c.updated.ensures ∙ updated_is _ _ good)
+    ∙ goes_on (stepping (payload a.bytes.now a.count) a.x a.c) (λ _. updating a.c) (fine r) (b.bin, b.next) (stepped (goal.at.returns-in-Done c).In-Done)
 
 pub returns-in-Slow : goal.returns-in-Slow
 unfolding decode_of
@@ -77,7 +83,7 @@ returns-in-Slow c =
     let a = c.args in
     c.renewed.ensures
     ∙ ap (λ o. and_then o (updating a.c)) (c.slow.ensures ∙ step_is _ _ (record { p = a.c.mps; lg = a.c.lg }) _ refl)
-    ∙ goes (λ u. and_then (stepping (goal.at.returns-in-Slow c).Start u) (updating a.c)) (fine (goal.at.returns-in-Slow c).In-Fine)
+    ∙ goes (λ u. and_then (stepping (payload a.bytes.now a.count) a.x a.c u) (updating a.c)) (fine (goal.at.returns-in-Slow c).In-Fine)
 
 pub returns-in-Refused : goal.returns-in-Refused
 unfolding decode_of

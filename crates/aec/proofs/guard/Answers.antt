@@ -25,15 +25,16 @@ state c =
 pub returns-then-not-good_state : goal.returns-then-not-good_state
 returns-then-not-good_state c =
     let a = c.args in
-    first_bad a.bytes.now a.count a.x a.contexts c.if-bytes-gt-LIMIT.false (ap (λ t. t && a.contexts) (state (goal.at.returns-then-not-good_state c).After-good_state ∙ not-true _ c.if-not-good_state.true))
+    first_bad a.bytes.now a.count a.x a.contexts c.if-bytes-gt-LIMIT.false (ap (λ t. t && a.contexts) (state (goal.at.returns-then-not-good_state c).After-good_state ∙ c.if-not-good_state.true))
 
 pub returns-then-not-contexts : goal.returns-then-not-contexts
 returns-then-not-contexts c =
+    let r = (goal.at.returns-then-not-contexts c).After-good_state in
     let a = c.args in
-    first_bad a.bytes.now a.count a.x a.contexts c.if-bytes-gt-LIMIT.false (ap (λ t. tested (goal.at.returns-then-not-contexts c).After-good_state && t) (not-true _ c.if-not-contexts.true) ∙ and-false (tested (goal.at.returns-then-not-contexts c).After-good_state))
+    first_bad a.bytes.now a.count a.x a.contexts c.if-bytes-gt-LIMIT.false (ap (λ t. tested r && t) c.if-not-contexts.true ∙ and-false (tested r))
 
 pub returns : goal.returns
 returns c =
     let a = c.args in
     first_fine a.bytes.now a.count a.x a.contexts c.if-bytes-gt-LIMIT.false
-    (ap (λ t. t && a.contexts) (state (goal.at.returns c).After-good_state ∙ not-false _ c.if-not-good_state.false) ∙ not-false _ c.if-not-contexts.false)
+    (ap (λ t. t && a.contexts) (state (goal.at.returns c).After-good_state ∙ c.if-not-good_state.false) ∙ c.if-not-contexts.false)

@@ -32,11 +32,11 @@ pub loop-v-init : goal.loop-v-init
 loop-v-init c = (search rules, search rules, search rules, refl)
 
 module _ (c : In-Done) where
-  bit-taken : done (c.in-Done.more, c.in-Done.next) ≡ double_of (drop c.loop-v.at (bits turning)) c.loop-v.v c.loop-v.at
+  bit-taken : done (c.in-Done.more, c.in-Done.next) ≡ double_of (drop c.loop-v.at (payload c.args.bytes.now c.args.count)) c.loop-v.v c.loop-v.at
   bit-taken = ap doubled_says (sym c.in-Done.is) ∙ c.take_bit.ensures
 
-  bound : Taken (bits turning) c.loop-v.v c.loop-v.at c.in-Done.more c.in-Done.next
-  bound = let a = c.args in taken (bits turning) _ _ _ _ (all_payload a.bytes.now a.count) (sym bit-taken)
+  bound : Taken (payload c.args.bytes.now c.args.count) c.loop-v.v c.loop-v.at c.in-Done.more c.in-Done.next
+  bound = let a = c.args in taken (payload c.args.bytes.now c.args.count) _ _ _ _ (all_payload a.bytes.now a.count) (sym bit-taken)
 
 pub overflow_add-n : goal.overflow_add-n
 overflow_add-n c =
@@ -48,16 +48,18 @@ loop-v-smaller c = let b = bound c in omega arith
 
 pub loop-v-preserved : goal.loop-v-preserved
 loop-v-preserved c =
-    let l = turning c in
+    let l = (goal.at.loop-v-preserved c).At-loop-v in
     let b = bound c in
-    let h = lt-leb 256 l.loop.v c.loop-v-test.true in
-    (omega arith, omega arith, omega arith, loop_on enough counted (bits l) (shift l) _ l.loop.inv.3 _ h (bit-taken c))
+    let h = lt-leb 256 c.loop-v.v c.loop-v-test.true in
+    (omega arith, omega arith, omega arith, loop_on enough counted (bits l) (shift l) _ c.loop-v.invariant.3 _ h (bit-taken c))
 
 pub returns-in-Refused : goal.returns-in-Refused
 returns-in-Refused c =
+    let p = (goal.at.returns-in-Refused c).At-loop-v in
     let h = lt-leb 256 c.loop-v.v c.loop-v-test.true in
-    loop_stops enough counted (bits (goal.at.returns-in-Refused c).At-loop-v) (shift (goal.at.returns-in-Refused c).At-loop-v) _ c.loop-v.invariant.3 c.in-Refused.r h (ap doubled_says (sym c.in-Refused.is) ∙ c.take_bit.ensures)
+    loop_stops enough counted (bits p) (shift p) _ c.loop-v.invariant.3 c.in-Refused.r h (ap doubled_says (sym c.in-Refused.is) ∙ c.take_bit.ensures)
 
 pub returns : goal.returns
 returns c =
-    loop_ends enough counted (bits (goal.at.returns c).At-loop-v) (shift (goal.at.returns c).At-loop-v) _ c.loop-v.invariant.3 (le-leb 256 c.loop-v.v c.loop-v-test.false)
+    let r = (goal.at.returns c).At-loop-v in
+    loop_ends enough counted (bits r) (shift r) _ c.loop-v.invariant.3 (le-leb 256 c.loop-v.v c.loop-v-test.false)

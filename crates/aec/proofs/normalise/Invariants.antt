@@ -28,7 +28,7 @@ abbrev pub invariant-loop-v : goal.invariant-loop-v
 invariant-loop-v l =
     let bits = payload l.bytes l.count in
     (l.at ≤ length bits) × (l.n ≤ l.at) × (l.v < 1048576)
-    × (normalise_of bits l.value l.place ≡ shifts enough counted (drop l.at bits) (record { l.value = l.v; beside = l.n; l.place = l.at }))
+    × (normalise_of bits l.value l.place ≡ shifts enough counted (drop l.at bits) (record { value = l.v; beside = l.n; place = l.at }))
 
 abbrev pub decreases-loop-v : goal.decreases-loop-v
 decreases-loop-v l = length (payload l.bytes l.count) - l.at

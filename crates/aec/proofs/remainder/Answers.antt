@@ -15,10 +15,7 @@ use Rattle.aec.proofs.ShiftLaws.{Taken, taken}
 use Rattle.aec.proofs.StepLaws.{missed, remainder_even, remainder_past}
 use borrow.Author.Rules.{rules}
 use Rattle.aec.proofs.remainder.Goals as goal
-use Rattle.aec.proofs.remainder.Goals.{In-Done, Start}
-
-abbrev bits : Start → List ℕ
-bits e = payload e.args.bytes.now e.args.count
+use Rattle.aec.proofs.remainder.Goals.{In-Done}
 
 -- what becomes of the doubled value
 abbrev lessened : Split → ℕ × ℕ → Outcome (ℕ × ℕ)
@@ -30,14 +27,14 @@ overflow_sub-result c =
 
 pub returns-then-y-x : goal.returns-then-y-x
 returns-then-y-x c =
-    remainder_even (bits (goal.at.returns-then-y-x c).Start) c.args.x c.args.y c.if-y-x.true
+    remainder_even (payload c.args.bytes.now c.args.count) c.args.x c.args.y c.if-y-x.true
 
 module _ (c : In-Done) where
-  bit-taken : done (c.in-Done.more, c.in-Done.next) ≡ double_of (drop c.args.x.place (bits entry)) c.args.x.vt c.args.x.place
+  bit-taken : done (c.in-Done.more, c.in-Done.next) ≡ double_of (drop c.args.x.place (payload c.args.bytes.now c.args.count)) c.args.x.vt c.args.x.place
   bit-taken = ap doubled_says (sym c.in-Done.is) ∙ c.take_bit.ensures
 
-  bound : Taken (bits entry) c.args.x.vt c.args.x.place c.in-Done.more c.in-Done.next
-  bound = taken (bits entry) _ _ _ _ (all_payload c.args.bytes.now c.args.count) (sym bit-taken)
+  bound : Taken (payload c.args.bytes.now c.args.count) c.args.x.vt c.args.x.place c.in-Done.more c.in-Done.next
+  bound = taken (payload c.args.bytes.now c.args.count) _ _ _ _ (all_payload c.args.bytes.now c.args.count) (sym bit-taken)
 
 pub overflow_add-result : goal.overflow_add-result
 overflow_add-result c = let b = bound c in omega arith
@@ -47,10 +44,10 @@ overflow_sub-result-in-Done c = let b = bound (goal.at.overflow_sub-result-in-Do
 
 pub returns-in-Done : goal.returns-in-Done
 returns-in-Done c =
-    let e = entry (goal.at.returns-in-Done c).In-Done in
-    goes (lessened e.args.y) (bit-taken (goal.at.returns-in-Done c).In-Done) ∙ sym (remainder_past (bits e) e.args.x e.args.y c.if-y-x.false)
+    let a = c.args in
+    goes (lessened a.y) (bit-taken (goal.at.returns-in-Done c).In-Done) ∙ sym (remainder_past (payload a.bytes.now a.count) a.x a.y c.if-y-x.false)
 
 pub returns-in-Refused : goal.returns-in-Refused
 returns-in-Refused c =
     stops (lessened c.args.y) (ap doubled_says (sym c.in-Refused.is) ∙ c.take_bit.ensures)
-    ∙ sym (remainder_past (bits (goal.at.returns-in-Refused c).Start) c.args.x c.args.y c.if-y-x.false)
+    ∙ sym (remainder_past (payload c.args.bytes.now c.args.count) c.args.x c.args.y c.if-y-x.false)

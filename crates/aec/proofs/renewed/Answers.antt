@@ -10,9 +10,9 @@ use Rattle.aec.proofs.renewed.Goals as goal
 
 pub returns-in-Done : goal.returns-in-Done
 returns-in-Done c =
-    let g = c.r-1.given in
+    let g = c.in-Done in
     let a = c.args in
-    ap (λ d. done (g.0.0, g.0.1.0, d)) (c.updated.ensures ∙ updated_is _ _ c.requires) ∙ goes (updating a.c) (ap stepped_says (sym g.1))
+    ap (λ d. done (g.bin, g.next, d)) (c.updated.ensures ∙ updated_is _ _ c.requires) ∙ goes (updating a.c) (ap stepped_says (sym g.is))
 
 pub returns-in-Refused : goal.returns-in-Refused
 returns-in-Refused c = let a = c.args in stops (updating a.c) (ap stepped_says (sym c.in-Refused.is))

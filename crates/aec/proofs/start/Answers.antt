@@ -7,6 +7,7 @@ use Rattle.answers.specs.Answers.{Outcome}
 use Rattle.answers.specs.Missing.{payload_out}
 use Rattle.answers.specs.Results.{Result}
 use Rattle.bits.specs.Bits.{payload, read_at, read_or}
+use Rattle.bits.specs.declared.Read.TheVariants.{Value}
 use Rattle.bits.proofs.BitLaws.{within_value, within_missing, never_wide}
 use Rattle.aec.specs.Bins.{settle_of, start_of}
 use Rattle.aec.specs.Inside.{settled_says}
@@ -42,28 +43,29 @@ module _ (c : After-read_bits) where
 
 -- with the nine bits there, it is what they settle to
 settles : (c : After-settle) (x : Settled) → c.settle.result ≡ x →
-    settled_says x ≡ settle_of (bits c.before.before.before.before) 255 c.in-Value.value 9
+    settled_says x ≡ settle_of (payload c.args.bytes.now c.args.count) 255 c.in-Value.value 9
 settles c x e = ap settled_says (sym e) ∙ c.settle.ensures
 
-started : (c : After-settle) →
-    settle_of (bits c.before.before.before.before) 255 c.in-Value.value 9 ≡ start_of c.args.bytes.now c.args.count
-started c =
-    let v = within_value (bits c.before.before.before.before) 0 9 (omega arith) _ (sym c.read_bits.ensures ∙ c.in-Value.is) in
-    ap (by_read c.before.before.before.before) (sym v) ∙ answer c.before.before.before.before
+started : (c : After-read_bits) (v : ℕ) → c.read_bits.result ≡ Value v → settle_of (bits c) 255 v 9 ≡ start_of c.args.bytes.now c.args.count
+started c v e =
+    let r = within_value (bits c) 0 9 (omega arith) _ (sym c.read_bits.ensures ∙ e) in
+    ap (by_read c) (sym r) ∙ answer c
 
 pub returns-in-Done : goal.returns-in-Done
-returns-in-Done c = settles (goal.at.returns-in-Done c).After-settle _ c.in-Done.is ∙ started (goal.at.returns-in-Done c).After-settle
+returns-in-Done c =
+    settles (goal.at.returns-in-Done c).After-settle _ c.in-Done.is ∙ started (goal.at.returns-in-Done c).After-read_bits c.in-Value.value c.in-Value.is
 
 pub returns-in-Refused : goal.returns-in-Refused
 returns-in-Refused c =
-    let l = bits (goal.at.returns-in-Refused c).After-read_bits in
+    let r = (goal.at.returns-in-Refused c).After-read_bits in
     let v = c.in-Value.value in
-    settle_refused l 255 v 9 c.in-Refused.field-0 (settles (goal.at.returns-in-Refused c).After-settle _ c.in-Refused.is) ∙ started (goal.at.returns-in-Refused c).After-settle
+    settle_refused (bits r) 255 v 9 c.in-Refused.field-0 (settles (goal.at.returns-in-Refused c).After-settle _ c.in-Refused.is) ∙ started r v c.in-Value.is
 
 pub returns-in-Missing : goal.returns-in-Missing
 returns-in-Missing c =
-    let m = within_missing (bits (goal.at.returns-in-Missing c).After-read_bits) 0 9 (omega arith) _ (sym c.read_bits.ensures ∙ c.in-Missing.is) in
-    ap (by_read (goal.at.returns-in-Missing c).After-read_bits) (sym m) ∙ answer (goal.at.returns-in-Missing c).After-read_bits
+    let r = (goal.at.returns-in-Missing c).After-read_bits in
+    let m = within_missing (bits r) 0 9 (omega arith) _ (sym c.read_bits.ensures ∙ c.in-Missing.is) in
+    ap (by_read r) (sym m) ∙ answer r
 
 pub returns-in-TooWide : goal.returns-in-TooWide
 returns-in-TooWide c = never_wide (bits (goal.at.returns-in-TooWide c).After-read_bits) 0 9 (omega arith) (sym c.read_bits.ensures ∙ c.in-TooWide.is)

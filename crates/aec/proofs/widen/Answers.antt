@@ -31,27 +31,29 @@ pub loop-wide-init : goal.loop-wide-init
 loop-wide-init c = (search rules, search rules, search rules, refl)
 
 module _ (c : In-Done) where
-  bit-taken : done (c.in-Done.more, c.in-Done.next) ≡ double_of (drop c.loop-wide.at (bits turning)) c.loop-wide.v c.loop-wide.at
+  bit-taken : done (c.in-Done.more, c.in-Done.next) ≡ double_of (drop c.loop-wide.at (payload c.args.bytes.now c.args.count)) c.loop-wide.v c.loop-wide.at
   bit-taken = ap doubled_says (sym c.in-Done.is) ∙ c.take_bit.ensures
 
-  bound : Taken (bits turning) c.loop-wide.v c.loop-wide.at c.in-Done.more c.in-Done.next
-  bound = let a = c.args in taken (bits turning) _ _ _ _ (all_payload a.bytes.now a.count) (sym bit-taken)
+  bound : Taken (payload c.args.bytes.now c.args.count) c.loop-wide.v c.loop-wide.at c.in-Done.more c.in-Done.next
+  bound = let a = c.args in taken (payload c.args.bytes.now c.args.count) _ _ _ _ (all_payload a.bytes.now a.count) (sym bit-taken)
 
 pub loop-wide-smaller : goal.loop-wide-smaller
 loop-wide-smaller c = let b = bound c in omega arith
 
 pub loop-wide-preserved : goal.loop-wide-preserved
 loop-wide-preserved c =
-    let l = turning c in
+    let l = (goal.at.loop-wide-preserved c).At-loop-wide in
     let b = bound c in
-    let h = lt-leb 256 l.loop.wide c.loop-wide-test.true in
-    (omega arith, omega arith, omega arith, loop_on enough twice (bits l) (shift l) _ l.loop.inv.3 _ h (bit-taken c))
+    let h = lt-leb 256 c.loop-wide.wide c.loop-wide-test.true in
+    (omega arith, omega arith, omega arith, loop_on enough twice (bits l) (shift l) _ c.loop-wide.invariant.3 _ h (bit-taken c))
 
 pub returns-in-Refused : goal.returns-in-Refused
 returns-in-Refused c =
+    let p = (goal.at.returns-in-Refused c).At-loop-wide in
     let h = lt-leb 256 c.loop-wide.wide c.loop-wide-test.true in
-    loop_stops enough twice (bits (goal.at.returns-in-Refused c).At-loop-wide) (shift (goal.at.returns-in-Refused c).At-loop-wide) _ c.loop-wide.invariant.3 c.in-Refused.r h (ap doubled_says (sym c.in-Refused.is) ∙ c.take_bit.ensures)
+    loop_stops enough twice (bits p) (shift p) _ c.loop-wide.invariant.3 c.in-Refused.r h (ap doubled_says (sym c.in-Refused.is) ∙ c.take_bit.ensures)
 
 pub returns : goal.returns
 returns c =
-    loop_ends enough twice (bits (goal.at.returns c).At-loop-wide) (shift (goal.at.returns c).At-loop-wide) _ c.loop-wide.invariant.3 (le-leb 256 c.loop-wide.wide c.loop-wide-test.false)
+    let r = (goal.at.returns c).At-loop-wide in
+    loop_ends enough twice (bits r) (shift r) _ c.loop-wide.invariant.3 (le-leb 256 c.loop-wide.wide c.loop-wide-test.false)

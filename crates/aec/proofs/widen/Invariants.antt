@@ -27,7 +27,7 @@ abbrev pub invariant-loop-wide : goal.invariant-loop-wide
 invariant-loop-wide l =
     let bits = payload l.bytes l.count in
     (l.at ≤ length bits) × (l.v < 768 * l.wide) × (l.wide < 512)
-    × (widen_of bits l.value l.range l.place ≡ shifts enough twice (drop l.at bits) (record { l.value = l.v; beside = l.wide; l.place = l.at }))
+    × (widen_of bits l.value l.range l.place ≡ shifts enough twice (drop l.at bits) (record { value = l.v; beside = l.wide; place = l.at }))
 
 abbrev pub decreases-loop-wide : goal.decreases-loop-wide
 decreases-loop-wide l = length (payload l.bytes l.count) - l.at

@@ -1,6 +1,7 @@
 -- The entry of the rate whose w it is, or the mark.
 use Prim.Native.Nat.{ℕ}
 use mathlib.Core.Path.{◌≡◌, refl, sym, ap, ◌∙◌}
+use native.Mathlib.Omega.{arith}
 use borrow.Author.Tests.{ne_eqb}
 use Rattle.entries.specs.declared.Entry.{Entry}
 use Rattle.marked.specs.Payloads.{entry_number, entry_answer}
@@ -26,4 +27,6 @@ returns-in-5 c = told c.args.index c.entry_number-in-5.ensures c.entry_at-in-5.e
 
 pub returns-in_default : goal.returns-in_default
 unfolding entry_answer
-returns-in_default c = let r = c.in_default.rest in simp (ne_eqb _ _ r.0.0.1, ne_eqb _ _ r.0.1, ne_eqb _ _ r.1)
+returns-in_default c =
+    let w = c.args.w in
+    simp (ne_eqb w 3 (λ e. omega arith), ne_eqb w 4 (λ e. omega arith), ne_eqb w 5 (λ e. omega arith))

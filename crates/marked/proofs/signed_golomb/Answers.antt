@@ -1,6 +1,6 @@
 -- The number and the place after it, or the refusal.
 use mathlib.Core.Path.{ap}
-use borrow.Author.Rules.{rules, sfits_of}
+use borrow.Author.Rules.{rules}
 use lib.IntN.{ℤ}
 use mir.Facts.{to_z-of_z}
 use mir.Syntax.{w32}
@@ -13,7 +13,7 @@ use Rattle.marked.proofs.signed_golomb.Goals as goal
 pub returns-in-Number : goal.returns-in-Number
 returns-in-Number c =
     let answer : ℤ → SignedNumber = λ n. record { status = 0; missing = 0; number = n; place = c.in-Number.next } in
-    arm_answers (signed_answer c.args.place) signed_says c.in-Number.is c.signed_golomb.ensures (ap answer (to_z-of_z {w = w32} {z = c.in-Number.n} (sfits_of c.known_told-1.given.0.1)))
+    arm_answers (signed_answer c.args.place) signed_says c.in-Number.is c.signed_golomb.ensures (ap answer (to_z-of_z {w = w32} {z = c.in-Number.n} (search rules)))
 
 pub returns-in-Value : goal.returns-in-Value
 returns-in-Value c =

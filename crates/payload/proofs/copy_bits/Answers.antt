@@ -23,8 +23,8 @@ zeros_after-zeros-requires c =
 
 pub loop-i-preserved : goal.loop-i-preserved
 loop-i-preserved c =
-    copying_step c.args.raw.now c.args.out.now c.loop-i.out (waits c.loop-i.p) c.loop-i.zeros c.loop-i.i c.loop-i.invariant _ (waits c.push-Kept.result) c.kept_width-width.result c.zeros_after-zeros.result
-    c.loop-i-test.true c.kept_width-width.ensures c.zeros_after-zeros.ensures c.push-Kept.ensures
+    copying_step c.args.raw.now c.args.out.now c.loop-i.out (waits c.loop-i.p) c.loop-i.zeros c.loop-i.i c.loop-i.invariant _ (waits c.push_kept-p.result) c.kept_width-width.result c.zeros_after-zeros.result
+    c.loop-i-test.true c.kept_width-width.ensures c.zeros_after-zeros.ensures c.push_kept-p.ensures
 
 pub settled-requires : goal.settled-requires
 settled-requires c = c.loop-i.invariant.partial.few

@@ -32,12 +32,12 @@ overflow_add-at c =
 pub returns-then-bit-ne0 : goal.returns-then-bit-ne0
 returns-then-bit-ne0 c =
     let l = c.loop-z in
-    sym (l.inv.1 ∙ zeros_one l.z l.at (bits (goal.at.returns-then-bit-ne0 c).In-Is) (omega arith) _ _ (heads (goal.at.returns-then-bit-ne0 c).In-Is) c.if-bit-ne0.true)
+    sym (l.invariant.1 ∙ zeros_one l.z l.at (bits (goal.at.returns-then-bit-ne0 c).In-Is) (omega arith) _ _ (heads (goal.at.returns-then-bit-ne0 c).In-Is) c.if-bit-ne0.true)
 
 pub loop-z-preserved : goal.loop-z-preserved
 loop-z-preserved c =
     let l = c.loop-z in
-    (search rules, l.inv.1 ∙ zeros_more l.z l.at (bits (goal.at.loop-z-preserved c).In-Is) (omega arith) _ (heads (goal.at.loop-z-preserved c).In-Is) c.if-bit-ne0.false)
+    (search rules, l.invariant.1 ∙ zeros_more l.z l.at (bits (goal.at.loop-z-preserved c).In-Is) (omega arith) _ (heads (goal.at.loop-z-preserved c).In-Is) c.if-bit-ne0.false)
 
 pub returns-in-Missing : goal.returns-in-Missing
 returns-in-Missing c =

@@ -10,18 +10,19 @@ use Rattle.payload.specs.Escape.{output_after, removal}
 use Rattle.payload.proofs.EscapeLaws.{removal_long, removal_full, removal_done, output_made}
 use Rattle.payload.proofs.remove_escapes.Goals as goal
 
--- an answer and the output that goes with it
+-- the output that goes with an answer
 settled : (raw out after : List ℕ) (r : Outcome ℕ) → removal raw (length out) ≡ r → after ≡ output_after r raw out →
-    (r ≡ removal raw (length out)) × (after ≡ output_after (removal raw (length out)) raw out)
-settled raw out after r e o = (sym e, o ∙ ap (λ (x : Outcome ℕ). output_after x raw out) (sym e))
+    after ≡ output_after (removal raw (length out)) raw out
+settled raw out after r e o = o ∙ ap (λ (x : Outcome ℕ). output_after x raw out) (sym e)
 
 pub returns-then-raw-gt-LIMIT : goal.returns-then-raw-gt-LIMIT
-returns-then-raw-gt-LIMIT c = let a = c.args in settled a.raw.now a.out.now _ _ (removal_long a.raw.now a.out.now c.if-raw-gt-LIMIT.true) refl
+returns-then-raw-gt-LIMIT c = let a = c.args in let e = removal_long a.raw.now a.out.now c.if-raw-gt-LIMIT.true in record { answer = sym e; output = settled a.raw.now a.out.now _ _ e refl }
 
 pub returns-then-out-raw : goal.returns-then-out-raw
 returns-then-out-raw c =
     let a = c.args in
-    settled a.raw.now a.out.now _ _ (removal_full a.raw.now a.out.now c.if-raw-gt-LIMIT.false c.if-out-raw.true) refl
+    let e = removal_full a.raw.now a.out.now c.if-raw-gt-LIMIT.false c.if-out-raw.true in
+    record { answer = sym e; output = settled a.raw.now a.out.now _ _ e refl }
 
 pub fill_last-count-requires : goal.fill_last-count-requires
 fill_last-count-requires c =
@@ -32,6 +33,9 @@ pub returns : goal.returns
 returns c =
     let a = c.args in
     let g = c.copy_bits-p.ensures in
-    settled a.raw.now a.out.now _ _
-    (removal_done a.raw.now a.out.now c.if-raw-gt-LIMIT.false c.if-out-raw.false ∙ ap done (sym (c.fill_last-count.ensures.0 ∙ g.count)))
-    (c.fill_last-count.ensures.1 ∙ output_made a.raw.now a.out.now _ c.copy_bits-p.result g c.if-out-raw.false)
+    let f = c.fill_last-count.ensures in
+    let e = removal_done a.raw.now a.out.now c.if-raw-gt-LIMIT.false c.if-out-raw.false ∙ ap done (sym (f.count ∙ g.count)) in
+    record {
+      answer = sym e;
+      output = settled a.raw.now a.out.now _ _ e (f.written ∙ output_made a.raw.now a.out.now _ c.copy_bits-p.result g c.if-out-raw.false);
+    }

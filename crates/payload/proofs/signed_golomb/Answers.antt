@@ -15,9 +15,9 @@ use Rattle.payload.proofs.signed_golomb.Goals.{After-unsigned_golomb}
 
 pub stands_for-requires : goal.stands_for-requires
 stands_for-requires c =
-    let g = c.n-1.given in
     let a = c.args in
-    golomb_bound a.bytes.now a.count a.place (record { number = g.0.0; next = g.0.1.0 }) (sym c.unsigned_golomb.ensures ∙ ap golomb_says g.1)
+    let n = c.in-Number in
+    golomb_bound a.bytes.now a.count a.place (record { number = n.n; next = n.next }) (sym c.unsigned_golomb.ensures ∙ ap golomb_says n.is)
 
 -- the unsigned answer decides the signed one
 signed : (r : After-unsigned_golomb) →
@@ -28,10 +28,10 @@ signed r = ap (map_done with_sign) r.unsigned_golomb.ensures
 
 pub returns-in-Number : goal.returns-in-Number
 returns-in-Number c =
-    let g = c.n-1.given in
-    let answer : ℤ → Outcome (Numbered ℤ) = λ n. done (record { number = n; next = g.0.1.0 }) in
+    let g = c.in-Number in
+    let answer : ℤ → Outcome (Numbered ℤ) = λ n. done (record { number = n; next = g.next }) in
     ap answer (to_z-of_z {w = w32} {z = c.stands_for.result} (record { sfits = c.stands_for.type_inv }) ∙ c.stands_for.ensures)
-    ∙ ap (λ y. map_done with_sign (golomb_says y)) (sym g.1)
+    ∙ ap (λ y. map_done with_sign (golomb_says y)) (sym g.is)
     ∙ signed (goal.at.returns-in-Number c).After-unsigned_golomb
 
 pub returns-in-Value : goal.returns-in-Value

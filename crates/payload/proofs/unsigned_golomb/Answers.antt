@@ -41,7 +41,7 @@ module _ (c : After-read_bits) where
       number_of z at (read_at (payload a.bytes.now a.count) at z) ≡ golomb a.bytes.now a.count a.place
   read_answer =
       let a = c.args in
-      ap (golomb_after (payload a.bytes.now a.count)) (sym c.in-Before.is) ∙ counted args
+      ap (golomb_after (payload a.bytes.now a.count)) (sym c.in-Before.is) ∙ golomb_after_lem a.bytes.now a.count a.place c.count_zeros.result c.if-bytes-gt-LIMIT.false c.count_zeros.ensures
 
   bounds :
       let a = c.args in
@@ -64,13 +64,16 @@ pub overflow_shl-result : goal.overflow_shl-result
 overflow_shl-result c = let b = bounds (goal.at.overflow_shl-result c).After-read_bits in omega (arith, b.0)
 
 pub overflow_sub-result : goal.overflow_sub-result
-overflow_sub-result c = omega (arith, base (goal.at.overflow_sub-result c).After-read_bits, pow_pos (z (goal.at.overflow_sub-result c).After-read_bits))
+overflow_sub-result c =
+    let r = (goal.at.overflow_sub-result c).After-read_bits in
+    omega (arith, base r, pow_pos (z r))
 
 pub overflow_add-result : goal.overflow_add-result
 overflow_add-result c =
+    let r = (goal.at.overflow_add-result c).After-read_bits in
     let a = c.args in
-    let n = number_lt a.bytes.now a.count a.place (z (goal.at.overflow_add-result c).After-read_bits) (at (goal.at.overflow_add-result c).After-read_bits) c.in-Value.b (bounds (goal.at.overflow_add-result c).After-read_bits).0 (read-value (goal.at.overflow_add-result c).After-read_bits _ c.in-Value.is) in
-    omega (arith, base (goal.at.overflow_add-result c).After-read_bits)
+    let n = number_lt a.bytes.now a.count a.place (z r) (at r) c.in-Value.b (bounds r).0 (read-value r _ c.in-Value.is) in
+    omega (arith, base r)
 
 pub overflow_add-result-in-Value : goal.overflow_add-result-in-Value
 overflow_add-result-in-Value c =
@@ -79,23 +82,25 @@ overflow_add-result-in-Value c =
 
 pub returns-in-Value : goal.returns-in-Value
 returns-in-Value c =
-    let g = c.b-1.given in
-    let answer : ℕ → Outcome (Numbered ℕ) = λ p. done (record { number = p - 1 + g.0.0; next = at (goal.at.returns-in-Value c).After-read_bits + z (goal.at.returns-in-Value c).After-read_bits }) in
-    ap answer (base (goal.at.returns-in-Value c).After-read_bits)
-    ∙ ap (number_of (z (goal.at.returns-in-Value c).After-read_bits) (at (goal.at.returns-in-Value c).After-read_bits)) (sym (read-value (goal.at.returns-in-Value c).After-read_bits _ g.1))
-    ∙ read_answer (goal.at.returns-in-Value c).After-read_bits
+    let r = (goal.at.returns-in-Value c).After-read_bits in
+    let g = c.in-Value in
+    let answer : ℕ → Outcome (Numbered ℕ) = λ p. done (record { number = p - 1 + g.b; next = at r + z r }) in
+    ap answer (base r)
+    ∙ ap (number_of (z r) (at r)) (sym (read-value r _ g.is))
+    ∙ read_answer r
 
 pub returns-in-Missing-read_bits : goal.returns-in-Missing-read_bits
 returns-in-Missing-read_bits c =
-    let g = c.missing-1.given in
-    let h = (bounds (goal.at.returns-in-Missing-read_bits c).After-read_bits).0 in
-    let m = within_missing _ (at (goal.at.returns-in-Missing-read_bits c).After-read_bits) (z (goal.at.returns-in-Missing-read_bits c).After-read_bits) (omega arith) _ (sym c.read_bits.ensures ∙ g.1) in
-    ap (number_of (z (goal.at.returns-in-Missing-read_bits c).After-read_bits) (at (goal.at.returns-in-Missing-read_bits c).After-read_bits)) (sym m) ∙ read_answer (goal.at.returns-in-Missing-read_bits c).After-read_bits
+    let r = (goal.at.returns-in-Missing-read_bits c).After-read_bits in
+    let h = (bounds r).0 in
+    let m = within_missing _ (at r) (z r) (omega arith) _ (sym c.read_bits.ensures ∙ c.in-Missing-read_bits.is) in
+    ap (number_of (z r) (at r)) (sym m) ∙ read_answer r
 
 pub returns-in-TooWide : goal.returns-in-TooWide
 returns-in-TooWide c =
-    let h = (bounds (goal.at.returns-in-TooWide c).After-read_bits).0 in
-    never_wide _ (at (goal.at.returns-in-TooWide c).After-read_bits) (z (goal.at.returns-in-TooWide c).After-read_bits) (omega arith) (sym c.read_bits.ensures ∙ c.in-TooWide.is)
+    let r = (goal.at.returns-in-TooWide c).After-read_bits in
+    let h = (bounds r).0 in
+    never_wide _ (at r) (z r) (omega arith) (sym c.read_bits.ensures ∙ c.in-TooWide.is)
 
 pub returns-in-TooMany : goal.returns-in-TooMany
 returns-in-TooMany c =

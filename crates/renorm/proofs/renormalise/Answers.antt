@@ -15,7 +15,7 @@ use Rattle.renorm.specs.Reader.{left_of, shifted_of, after_word}
 use Rattle.renorm.specs.declared.Renormalised.TheVariants.{Short}
 use Rattle.renorm.proofs.ShiftedLaws.{left_near}
 use Rattle.renorm.proofs.renormalise.Goals as goal
-use Rattle.renorm.proofs.renormalise.Goals.{After-left_of-left, In-Bits}
+use Rattle.renorm.proofs.renormalise.Goals.{In-Bits}
 
 -- nothing is shifted out, and the bits fit after it
 shifted-head : (head left : ℕ) → head < 65536 → left ≤ 32 → head * 2 ^ left % 18446744073709551616 ≡ head * 2 ^ left
@@ -36,29 +36,28 @@ module _ (k : In-Bits) where
   wide = (word_ahead k.args.bytes.now k.args.count k.args.place _ _ read).0
 
 -- how many of them are left
-left-bounds : (l : After-left_of-left) → (24 ≤ l.left_of-left.result) × (l.left_of-left.result ≤ width l.before) × (width l.before ≤ 32)
-left-bounds l =
-    let w = wide l.before in
-    let e = l.left_of-left.ensures in
-    let b = left_near (width l.before) l.args.borrows in
+left-bounds : (k : In-Bits) (left : ℕ) → left ≡ left_of (width k) k.args.borrows → (24 ≤ left) × (left ≤ width k) × (width k ≤ 32)
+left-bounds k left e =
+    let w = wide k in
+    let b = left_near (width k) k.args.borrows in
     (omega arith, omega arith, omega arith)
 
 pub left_of-left-requires : goal.left_of-left-requires
 left_of-left-requires c = let w = wide c in omega arith
 
 pub overflow_shl-head : goal.overflow_shl-head
-overflow_shl-head c = let b = left-bounds c in omega arith
+overflow_shl-head c = let b = left-bounds (goal.at.overflow_shl-head c).In-Bits c.left_of-left.result c.left_of-left.ensures in omega arith
 
 pub overflow_add-head : goal.overflow_add-head
 overflow_add-head c =
-    let b = left-bounds c in
+    let b = left-bounds (goal.at.overflow_add-head c).In-Bits c.left_of-left.result c.left_of-left.ensures in
     let h = c.args.head in
     let s = shifted-head h c.left_of-left.result (omega arith) (omega arith) in
     let t = small-head h c.left_of-left.result (omega arith) (omega arith) in
     omega arith
 
 pub shifted-requires : goal.shifted-requires
-shifted-requires c = left-bounds c
+shifted-requires c = left-bounds (goal.at.shifted-requires c).In-Bits c.left_of-left.result c.left_of-left.ensures
 
 -- of that many bits
 after-bits : (v width left head range : ℕ) (b : Bool) (w : Word) → w ≡ word.Bits v width → left ≡ left_of width b → shifted_of (head * 2 ^ left + v) left width range ≡ after_word w head b range
@@ -72,7 +71,7 @@ after-few head range b w e = rw e refl
 pub returns-in-Bits : goal.returns-in-Bits
 returns-in-Bits c =
     let a = c.args in
-    let b = left-bounds (goal.at.returns-in-Bits c).After-left_of-left in
+    let b = left-bounds (goal.at.returns-in-Bits c).In-Bits c.left_of-left.result c.left_of-left.ensures in
     let s = shifted-head a.head c.left_of-left.result (omega arith) (omega arith) in
     c.shifted.ensures
     ∙ ap (λ (n : ℕ). shifted_of (n + c.in-Bits.word) c.left_of-left.result (width (goal.at.returns-in-Bits c).In-Bits) a.range) s
