@@ -107,10 +107,10 @@ copyright_fixed = laws.copyright_fixed
 -- ── no two answers say the same ──
 
 pub header_one_to_one : OneToOne header_says
-header_one_to_one = says.header_says
+header_one_to_one = says.header_says_lem
 
 pub extension_one_to_one : OneToOne extension_says
-extension_one_to_one = says.extension_says
+extension_one_to_one = says.extension_says_lem
 
 -- Nothing that is given is said as another: numbers and bits tell all faults apart.
 pub answered_one_to_one : {A : Type 0} → OneToOne (answer_of {A = A})

@@ -81,6 +81,7 @@ pub enum ExtensionAnswer {
 
 // ── numbers of refusals ──
 
+#[tactic(auto, unfolding(crate::specs::Answers::value_number))]
 fn value_number(field: JudgedField) -> u32
     ensures { result ≡ value_number field }
 {
@@ -100,6 +101,7 @@ fn value_number(field: JudgedField) -> u32
 }
 
 // The number of what a body is refused for.
+#[tactic(auto, unfolding(crate::specs::Answers::fault_number))]
 pub fn fault_number(why: Fault) -> u32
     ensures { result ≡ fault_number why }
 {

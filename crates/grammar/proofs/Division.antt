@@ -188,7 +188,7 @@ no_false : {A : Type 0} → false ≡ true → A
 no_false e = let z : ◌≡◌ {A = ℕ} 0 1 = cc in absurd (omega arith)
 
 -- one unit back
-back : {q q' : State} {u : StreamUnit} → Goes q u q' → (b : Scope) → b ≡ scope_in q u → (ms : List Placed) → Rest q' ms → Rest q (placed b u ∷ ms)
+back : {u : StreamUnit} {q q' : State} → Goes q u q' → (b : Scope) → b ≡ scope_in q u → (ms : List Placed) → Rest q' ms → Rest q (placed b u ∷ ms)
 unfolding one_picture one_slice
 back (sequence {u} {header} c k) b f ms r = one_group u b header c k f r
 back (user {u} c) b f ms r = more_extra u b (inl c) (λ d. apart kind.UserData kind.Extension refl c d.0) (rw c at f) r

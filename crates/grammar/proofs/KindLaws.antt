@@ -87,6 +87,10 @@ module _ (named : List Kind) where
   pub last_arm : (k : Kind) → OneOf left (Declared.tag_of Declaration.the_type k) → none_has left named ≡ true → All (λ j. same_kind k j ≡ false) named
   last_arm k o t = none_of left named k o t
 
+-- a kind that is not another is found to be none of it
+pub other_kind : (k j : Kind) → ¬ (k ≡ j) → same_kind k j ≡ false
+other_kind k j n = by_test (same_kind k j) (λ t. absurd (n (same_true k j t))) (λ f. f)
+
 -- no unit has two kinds
 pub apart : {P : Type 0} {o : Outcome Kind} (j k : Kind) → same_kind j k ≡ false → o ≡ done j → o ≡ done k → P
 apart j k d e f = let s = true_same j k (done_one (sym e ∙ f)) in let z : ◌≡◌ {A = ℕ} 0 1 = cc in absurd (omega arith)

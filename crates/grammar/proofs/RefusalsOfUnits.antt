@@ -237,6 +237,7 @@ module _ (us : List StreamUnit) (u : StreamUnit) (k : Kind) (is : IsKind k u) (w
   none_stops (x ∷ l) n = by_test (same_kind k x.0) (λ t. absurd (n (inl (same_true k x.0 t)))) (λ f. rw f (none_stops l (λ h. n (inr h))))
 
   one_stops : (l : List (Kind × Step)) → All (Entry us u) l → Has k (kinds_in l) → BreaksBody k us u why → choose k l ≡ stop why
+  one_stops [] a h b = elim h [ ]
   one_stops (x ∷ l) a h b =
       by_test (same_kind k x.0)
       (λ t. let i = same_true k x.0 t in rw t ((a.0 (is ∙ ap done i) why).1 (subst (λ (j : Kind). BreaksBody j us u why) i b)))

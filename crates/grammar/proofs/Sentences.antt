@@ -131,6 +131,7 @@ a_slice us v h u = (
 )
 
 some_before : (P : StreamUnit → Type 0) (l : List StreamUnit) (u : StreamUnit) → Some P l → Some P (l ++ u ∷ [])
+some_before P [] u s = elim s [ ]
 some_before P (x ∷ l) u (inl p) = inl p
 some_before P (x ∷ l) u (inr s) = inr (some_before P l u s)
 
@@ -140,6 +141,7 @@ some_last P (x ∷ l) u p = inr (some_last P l u p)
 
 some_split : (P : StreamUnit → Type 0) (l : List StreamUnit) (u : StreamUnit) → Some P (l ++ u ∷ []) → Some P l ⊎ P u
 some_split P [] u (inl p) = inr p
+some_split P [] u (inr s) = elim s [ ]
 some_split P (x ∷ l) u (inl p) = inl (inl p)
 some_split P (x ∷ l) u (inr s) = elim (some_split P l u s) [ inl k ↦ inl (inr k) | inr p ↦ inr p ]
 
@@ -169,7 +171,7 @@ picture_extra {us} u c n m s = (
   no_slice us u m,
 )
 
-goes_says : {q q' : State} {u : StreamUnit} → Goes q u q' → (us : List StreamUnit) → Says us q → Says (us ++ u ∷ []) q'
+goes_says : {u : StreamUnit} {q q' : State} → Goes q u q' → (us : List StreamUnit) → Says us q → Says (us ++ u ∷ []) q'
 goes_says (sequence {u} {header} c k) us s = (new_rule us u header c k, new_head us u c)
 goes_says (user {u} c) us s = (same_rule u (not_kind kind.SequenceHeader u c refl) s.0, same_head u (not_head u c refl refl refl) (λ d. apart kind.UserData kind.Extension refl c d.0) s.1)
 goes_says (extension {u} c k n) us s = (same_rule u (not_kind kind.SequenceHeader u c refl) s.0, same_head u (not_head u c refl refl refl) (λ d. n d.1) s.1)

@@ -56,7 +56,7 @@ onward (done kind.PBPicture) q = InPicture plain_rule
 onward (done kind.EditCode) q = Closed
 onward (refused n carried) q = q
 
-goes_onward : {q q' : State} {u : StreamUnit} → Goes q u q' → plain q' ≡ onward (kind_of u.code) (plain q)
+goes_onward : {u : StreamUnit} {q q' : State} → Goes q u q' → plain q' ≡ onward (kind_of u.code) (plain q)
 goes_onward (sequence c k) = rw c refl
 goes_onward (user c) = rw c refl
 goes_onward (extension c k n) = rw c refl
@@ -157,19 +157,25 @@ untested t = let z : ◌≡◌ {A = ℕ} 0 1 = cc in absurd (omega arith)
 room : (q : State) (k : Kind) → Has k (kinds_at (plain q)) → Room (plain q) k
 unfolding kind_of opaque_unit cut begins
 room Start k (inl e) = room_at Start k kind.SequenceHeader plain_unit plain_alone e refl (sequence refl plain_header_lem)
+room Start k (inr e) = elim e [ ]
 room (Head rule d) k (inl e) = room_at (plain (Head rule d)) k kind.UserData (empty 0xB2) (alone_cut (empty 0xB2) refl) e refl (user refl)
 room (Head rule d) k (inr (inl e)) = room_at (plain (Head rule d)) k kind.Extension opaque_unit (alone_cut opaque_unit refl) e refl (extension refl opaque_extension (not_number 2 (omega arith)))
 room (Head rule d) k (inr (inr (inl e))) = room_at (plain (Head rule d)) k kind.IPicture (one_byte 0xB3) (alone_cut (one_byte 0xB3) refl) e refl (first_picture refl one_nonzero)
+room (Head rule d) k (inr (inr (inr e))) = elim e [ ]
 room (InPicture rule) k (inl e) = room_at (plain (InPicture rule)) k kind.Slice (one_byte 0) (alone_cut (one_byte 0) refl) e refl (first_slice {u = one_byte 0} (refl, one_nonzero) untested)
 room (InPicture rule) k (inr (inl e)) = room_at (plain (InPicture rule)) k kind.UserData (empty 0xB2) (alone_cut (empty 0xB2) refl) e refl (extra (inl refl))
 room (InPicture rule) k (inr (inr (inl e))) = room_at (plain (InPicture rule)) k kind.Extension opaque_unit (alone_cut opaque_unit refl) e refl (extra (inr (refl, opaque_extension)))
+room (InPicture rule) k (inr (inr (inr e))) = elim e [ ]
 room (Slices rule n) k (inl e) = room_at (plain (Slices rule n)) k kind.Slice (one_byte 0) (alone_cut (one_byte 0) refl) e refl (next_slice {u = one_byte 0} (refl, one_nonzero) untested)
 room (Slices rule n) k (inr (inl e)) = room_at (plain (Slices rule n)) k kind.IPicture (one_byte 0xB3) (alone_cut (one_byte 0xB3) refl) e refl (next_picture (inl refl) one_nonzero)
 room (Slices rule n) k (inr (inr (inl e))) = room_at (plain (Slices rule n)) k kind.PBPicture (one_byte 0xB6) (alone_cut (one_byte 0xB6) refl) e refl (next_picture (inr refl) one_nonzero)
 room (Slices rule n) k (inr (inr (inr (inl e)))) = room_at (plain (Slices rule n)) k kind.SequenceHeader plain_unit plain_alone e refl (next_sequence refl plain_header_lem)
 room (Slices rule n) k (inr (inr (inr (inr (inl e))))) = room_at (plain (Slices rule n)) k kind.SequenceEnd (empty 0xB1) (alone_cut (empty 0xB1) refl) e refl (end refl refl)
 room (Slices rule n) k (inr (inr (inr (inr (inr (inl e)))))) = room_at (plain (Slices rule n)) k kind.EditCode (empty 0xB7) (alone_cut (empty 0xB7) refl) e refl (edit refl refl)
+room (Slices rule n) k (inr (inr (inr (inr (inr (inr e)))))) = elim e [ ]
 room Ended k (inl e) = room_at Ended k kind.EditCode (empty 0xB7) (alone_cut (empty 0xB7) refl) e refl (end_edit refl refl)
+room Ended k (inr e) = elim e [ ]
+room Closed k e = elim e [ ]
 
 same_kinds : (us vs : List StreamUnit) (u v : StreamUnit) → kinds_of vs ≡ kinds_of us → kind_of v.code ≡ kind_of u.code → kinds_of (vs ++ v ∷ []) ≡ kinds_of (us ++ u ∷ [])
 same_kinds us vs u v e f = let a = kinds_more us u in let b = kinds_more vs v in cc

@@ -165,19 +165,25 @@ module _ (k : Kind) (u : StreamUnit) (is : IsKind k u) where
 
   took_sound : (q q' : State) → Took k (table q u) q' → Goes q u q'
   took_sound Start q (inl e) = let r = header_step_lem u.body q e.1 in subst (Goes Start u) r.2 (sequence (of e.0) r.1)
+  took_sound Start q (inr e) = elim e [ ]
   took_sound (Head h d) q (inl e) = let s : Head h d ≡ q = cc e.1 in subst (Goes (Head h d) u) s (user (of e.0))
   took_sound (Head h d) q (inr (inl e)) = head_step h d u q (of e.0) e.1
   took_sound (Head h d) q (inr (inr (inl e))) = let r = picture_step_lem h u.body q e.1 in subst (Goes (Head h d) u) r.1 (first_picture (of e.0) r.0)
+  took_sound (Head h d) q (inr (inr (inr e))) = elim e [ ]
   took_sound (InPicture h) q (inl e) = let r = slice_step_lem h 0 u q e.1 in subst (Goes (InPicture h) u) r.2 (first_slice (of e.0, r.0) r.1)
   took_sound (InPicture h) q (inr (inl e)) = let s : InPicture h ≡ q = cc e.1 in subst (Goes (InPicture h) u) s (extra (inl (of e.0)))
   took_sound (InPicture h) q (inr (inr (inl e))) = picture_extra h u q (of e.0) e.1
+  took_sound (InPicture h) q (inr (inr (inr e))) = elim e [ ]
   took_sound (Slices h n) q (inl e) = let r = slice_step_lem h n u q e.1 in subst (Goes (Slices h n) u) r.2 (next_slice (of e.0, r.0) r.1)
   took_sound (Slices h n) q (inr (inl e)) = let r = picture_step_lem h u.body q e.1 in subst (Goes (Slices h n) u) r.1 (next_picture (inl (of e.0)) r.0)
   took_sound (Slices h n) q (inr (inr (inl e))) = let r = picture_step_lem h u.body q e.1 in subst (Goes (Slices h n) u) r.1 (next_picture (inr (of e.0)) r.0)
   took_sound (Slices h n) q (inr (inr (inr (inl e)))) = let r = header_step_lem u.body q e.1 in subst (Goes (Slices h n) u) r.2 (next_sequence (of e.0) r.1)
   took_sound (Slices h n) q (inr (inr (inr (inr (inl e))))) = let r = ending_step_lem u.body Ended q e.1 in subst (Goes (Slices h n) u) r.1 (end (of e.0) r.0)
   took_sound (Slices h n) q (inr (inr (inr (inr (inr (inl e)))))) = let r = ending_step_lem u.body Closed q e.1 in subst (Goes (Slices h n) u) r.1 (edit (of e.0) r.0)
+  took_sound (Slices h n) q (inr (inr (inr (inr (inr (inr e)))))) = elim e [ ]
   took_sound Ended q (inl e) = let r = ending_step_lem u.body Closed q e.1 in subst (Goes Ended u) r.1 (end_edit (of e.0) r.0)
+  took_sound Ended q (inr e) = elim e [ ]
+  took_sound Closed q e = elim e [ ]
 
 pub step_sound : (q : State) (u : StreamUnit) (q' : State) → step q u ≡ go q' → Goes q u q'
 unfolding step
@@ -206,7 +212,7 @@ step_extension rule d body k n =
     let x = (head_good body f).1 k in
     rw f (goes (extension_result scope.Head body) (λ y. Head rule d) x.0 x.1)
 
-pub step_complete : {q q' : State} {u : StreamUnit} → Goes q u q' → step q u ≡ go q'
+pub step_complete : {u : StreamUnit} {q q' : State} → Goes q u q' → step q u ≡ go q'
 unfolding step
 step_complete (sequence {u} {header} c k) = rw c (step_header u.body header k)
 step_complete (user {u} c) = rw c refl

@@ -13,7 +13,7 @@ use Rattle.layout.specs.Answers.{verdict_says}
 use Rattle.layout.specs.declared.Layout.{Layout}
 use Rattle.layout.specs.declared.Fault.TheVariants.{Short, Stuffing}
 use Rattle.layout.specs.declared.Verdict.{Verdict}
-use Rattle.layout.specs.declared.Verdict.TheVariants.{Fine}
+use Rattle.layout.specs.declared.Verdict.TheVariants.{Fine, Faulty}
 
 -- ── the end ──
 
@@ -37,7 +37,6 @@ unfolding reading
 reading_long layout body h = rw (le-ltb _ _ h)
 
 pub both_says : (v w : Verdict) (vs : List ℕ) → verdict_says (both v w) vs ≡ (v >> (w >> good vs))
-both_says v w vs = elim v [ Verdict.Fine ↦ says w | Verdict.Faulty fault ↦ refl ]
-  where
-    says : (w : Verdict) → verdict_says w vs ≡ (w >> good vs)
-    says w = elim w [ Verdict.Fine ↦ refl | Verdict.Faulty fault ↦ refl ]
+both_says Fine Fine vs = refl
+both_says Fine (Faulty fault) vs = refl
+both_says (Faulty fault) w vs = refl

@@ -22,7 +22,7 @@ pub returns-then-number-eq4 : goal.returns-then-number-eq4
 unfolding by_number
 returns-then-number-eq4 c =
     let a = c.args in
-    c.read_by_lem.ensures ∙ sym (ap (λ (b : Bool). cond b (copyright_of a.body.now) (not_copyright a.scope a.body.now a.number)) (eq-eqb a.number 4 c.if-number-eq4.true))
+    c.read_by.ensures ∙ sym (ap (λ (b : Bool). cond b (copyright_of a.body.now) (not_copyright a.scope a.body.now a.number)) (eq-eqb a.number 4 c.if-number-eq4.true))
 
 pub returns-then-number-eq2 : goal.returns-then-number-eq2
 returns-then-number-eq2 c =

@@ -19,13 +19,13 @@ made_of flag owner original m n e = rw e
 -- the parts as they were read, and their bounds
 module _ (c : After-shared_slice_known-7-1) where
   one-small : c.long-one.result < 1048576
-  one-small = omega (arith, fits_at copyright_fields last.before.before.before.before.before.before.before.args.values.now 6 last.before.before.before.before.before.before.before.pre.1 (omega arith), c.long-one.ensures.0)
+  one-small = omega (arith, fits_at copyright_fields c.args.values.now 6 c.requires.1 (omega arith), c.long-one.ensures.0)
 
   two-small : c.long-two.result < 4194304
-  two-small = omega (arith, fits_at copyright_fields last.before.before.before.before.before.before.before.args.values.now 8 last.before.before.before.before.before.before.before.pre.1 (omega arith), c.long-two.ensures.0)
+  two-small = omega (arith, fits_at copyright_fields c.args.values.now 8 c.requires.1 (omega arith), c.long-two.ensures.0)
 
   three-small : c.long-three.result < 4194304
-  three-small = omega (arith, fits_at copyright_fields last.before.before.before.before.before.before.before.args.values.now 10 last.before.before.before.before.before.before.before.pre.1 (omega arith), c.long-three.ensures.0)
+  three-small = omega (arith, fits_at copyright_fields c.args.values.now 10 c.requires.1 (omega arith), c.long-three.ensures.0)
 
 pub overflow_mul-result : goal.overflow_mul-result
 overflow_mul-result c = omega (arith, one-small c)

@@ -27,7 +27,7 @@ returns-then-display_short c = sym (display_short_lem c.args.body.now (sym c.dis
 pub returns-then-given-eq1 : goal.returns-then-given-eq1
 returns-then-given-eq1 c =
     let body = c.args.body.now in
-    c.read_by_lem.ensures ∙ sym (by_bit (goal.at.returns-then-given-eq1 c).After-read_bit _ c.in-Is.is ∙ ap (λ (b : Bool). cond b (coloured_of body) (plain_of body)) (eq-eqb _ 1 c.if-given-eq1.true))
+    c.read_by.ensures ∙ sym (by_bit (goal.at.returns-then-given-eq1 c).After-read_bit _ c.in-Is.is ∙ ap (λ (b : Bool). cond b (coloured_of body) (plain_of body)) (eq-eqb _ 1 c.if-given-eq1.true))
 
 pub returns-else-given-eq1 : goal.returns-else-given-eq1
 returns-else-given-eq1 c =

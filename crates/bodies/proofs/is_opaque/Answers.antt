@@ -10,10 +10,12 @@ use Rattle.bits.proofs.BitLaws.{says_same, says_wide}
 use Rattle.bodies.specs.Extensions.{is_opaque}
 use Rattle.bodies.specs.Reader.{number_of}
 use Rattle.bodies.specs.declared.Scope.{Scope}
+use Rattle.bodies.specs.declared.Scope.TheVariants.{Head}
 use Rattle.bodies.proofs.NumberLaws.{opaque_read, opaque_read_lem}
+use Rattle.bits.specs.declared.Read.TheVariants.{Value}
 use borrow.Author.Rules.{rules}
 use Rattle.bodies.proofs.is_opaque.Goals as goal
-use Rattle.bodies.proofs.is_opaque.Goals.{After-number_of, In-Head}
+use Rattle.bodies.proofs.is_opaque.Goals.{After-number_of}
 
 opaque-by : (c : After-number_of) (scope : Scope) (r : Result ℕ ℕ) → c.args.scope ≡ scope → c.number_of.result ≡ read_says r →
     opaque_read scope r ≡ is_opaque c.args.scope c.args.body.now
@@ -22,18 +24,19 @@ opaque-by c scope r p e =
     ap (λ (p : Scope). opaque_read p r) (sym p) ∙ sym (opaque_read_lem a.scope a.body.now r (says_same (number_of a.body.now) r (sym c.number_of.ensures ∙ e)))
 
 -- in a head
-module _ (c : In-Head) where
-  abbrev number : ℕ
-  number = c.in-Value.number
-
-  in_head : not (eqb number 4) && not (eqb number 2) ≡ is_opaque c.args.scope c.args.body.now
-  in_head = opaque-by c.before.before.before.before.before _ (good number) c.in-Head.is c.in-Value.is
+in_head : (c : After-number_of) (n : ℕ) → c.args.scope ≡ Head → c.number_of.result ≡ Value n → not (eqb n 4) && not (eqb n 2) ≡ is_opaque c.args.scope c.args.body.now
+in_head c n s e = opaque-by c _ (good n) s e
 
 pub returns-then-number-ne4 : goal.returns-then-number-ne4
-returns-then-number-ne4 c = let n = number (goal.at.returns-then-number-ne4 c).In-Head in ap (λ (t : Bool). not t && not (eqb n 2)) (sym (ne_eqb n 4 c.if-number-ne4.true)) ∙ in_head (goal.at.returns-then-number-ne4 c).In-Head
+returns-then-number-ne4 c =
+    let n = c.in-Value.number in
+    ap (λ (t : Bool). not t && not (eqb n 2)) (sym (ne_eqb n 4 c.if-number-ne4.true)) ∙ in_head (goal.at.returns-then-number-ne4 c).After-number_of n c.in-Head.is c.in-Value.is
 
 pub returns-else-number-ne4 : goal.returns-else-number-ne4
-returns-else-number-ne4 c = let n = number (goal.at.returns-else-number-ne4 c).In-Head in let four = eq-eqb n 4 c.if-number-ne4.false in ap not four ∙ ap (λ (t : Bool). not t && not (eqb n 2)) (sym four) ∙ in_head (goal.at.returns-else-number-ne4 c).In-Head
+returns-else-number-ne4 c =
+    let n = c.in-Value.number in
+    let four = eq-eqb n 4 c.if-number-ne4.false in
+    ap not four ∙ ap (λ (t : Bool). not t && not (eqb n 2)) (sym four) ∙ in_head (goal.at.returns-else-number-ne4 c).After-number_of n c.in-Head.is c.in-Value.is
 
 pub returns-in-Picture : goal.returns-in-Picture
 returns-in-Picture c = opaque-by (goal.at.returns-in-Picture c).After-number_of _ (good c.in-Value.number) c.in-Picture.is c.in-Value.is

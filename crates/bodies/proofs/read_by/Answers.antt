@@ -24,7 +24,7 @@ module _ (c : In-Fine) where
   values = c.read_body-read.result.values
 
   as_many : length (take (length (fields layout)) values) ≡ length (fields layout)
-  as_many = held_length layout read.before.before.before.args.body.now c.read_body-read.result c.read_body-read.ensures c.in-Fine.is
+  as_many = held_length layout c.args.body.now c.read_body-read.result c.read_body-read.ensures c.in-Fine.is
 
 pub slice_bounds-values-end : goal.slice_bounds-values-end
 slice_bounds-values-end c = omega (arith, as_many (goal.at.slice_bounds-values-end c).In-Fine, length-take (length (fields (layout (goal.at.slice_bounds-values-end c).In-Fine))) (values (goal.at.slice_bounds-values-end c).In-Fine), c.field_count-n.ensures)

@@ -20,8 +20,7 @@ what : (u : After-unit_at) {y : UnitAnswer} → u.unit_at.result ≡ y → Left 
 what u e =
     subst (Left (stream_of u.before.before) u.loop-at.state u.loop-at.at) (sym u.unit_at.ensures ∙ e) (what_is_left (stream_of u.before.before) u.loop-at.state u.loop-at.at (u.loop-at.invariant.0.here u.loop-at-test.true))
 
-advanced : (c : In-Next) → let g = c.next-1.given in
-    Advanced (stream_of c.before.before.before.before.before) c.loop-at.state c.loop-at.at g.0.0 g.0.1.0 g.0.1.1.0
+advanced : (c : In-Next) → Advanced (stream_of c.before.before.before.before.before) c.loop-at.state c.loop-at.at c.in-Next.next c.in-Next.end c.in-Next.field-2
 advanced c = what c.before.before.before c.in-Next.is
 
 pub returns-then-not-prefix_at : goal.returns-then-not-prefix_at

@@ -20,8 +20,8 @@ use Rattle.filing.proofs.file_keeping.Goals.{In-Good}
 
 -- a stream that was counted: its units
 module _ (k : In-Good) where
-  found : (ms : List Placed) × (walk counted.before.before.before.before.before.args.stream.now ≡ good ms) × (length ms ≡ k.in-Good.units)
-  found = said_done length (walk counted.before.before.before.before.before.args.stream.now) _ (sym k.check_keeping.ensures.0 ∙ ap checked_says k.in-Good.is)
+  found : (ms : List Placed) × (walk k.args.stream.now ≡ good ms) × (length ms ≡ k.in-Good.units)
+  found = said_done length (walk k.args.stream.now) _ (sym k.check_keeping.ensures.0 ∙ ap checked_says k.in-Good.is)
 
 -- the spans that were kept of them
 kept : (k : In-Good) → Kept k.args.stream.now k.check_keeping.new.1.0 (length (found k).0)
@@ -47,6 +47,5 @@ returns-else-rows-units c = let a = c.args in let f = found (goal.at.returns-els
 pub returns-in-Refused : goal.returns-in-Refused
 returns-in-Refused c =
     let a = c.args in
-    let g = c.refusal-1.given in
-    let k = said_refused length (walk a.stream.now) _ _ (sym c.check_keeping.ensures.0 ∙ ap checked_says g.1) in
+    let k = said_refused length (walk a.stream.now) _ _ (sym c.check_keeping.ensures.0 ∙ ap checked_says c.in-Refused.is) in
     settled a.stream.now a.rows.now _ _ (bad k.0) (into_bad a.stream.now _ k.0 k.1) (λ i. refused (k.2 i) (k.3 i)) refl

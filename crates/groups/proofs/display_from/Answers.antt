@@ -24,10 +24,10 @@ module _ (l : At-loop-at) where
 -- the next prefix
 module _ (k : After-next_prefix-end) where
   over : k.next_prefix-end.result < k.loop-at.at + 4 → units_from (stream here) k.loop-at.at ≡ []
-  over = units_over (stream here) k.loop-at.at k.loop-at.inv.here k.loop-at-test.taken k.next_prefix-end.result k.next_prefix-end.ensures
+  over = units_over (stream here) k.loop-at.at k.loop-at.invariant.here k.loop-at-test.taken k.next_prefix-end.result k.next_prefix-end.ensures
 
   walk : k.loop-at.at + 4 ≤ k.next_prefix-end.result → Walked (stream here) k.loop-at.at k.next_prefix-end.result
-  walk = walked (stream here) k.loop-at.at k.loop-at.inv.here k.loop-at-test.taken k.next_prefix-end.result k.next_prefix-end.ensures
+  walk = walked (stream here) k.loop-at.at k.loop-at.invariant.here k.loop-at-test.taken k.next_prefix-end.result k.next_prefix-end.ensures
 
 -- the unit that was read
 module _ (u : After-in_group_head) where
@@ -40,10 +40,10 @@ module _ (u : After-in_group_head) where
   answered : {y : InHead} → y ≡ u.in_group_head.result → display_by y rest ≡ display_in (units_from (stream (here found)) (from (here found)))
   answered e =
       ap (λ (y : InHead). display_by y rest) e ∙ u.in_group_head.ensures rest
-      ∙ show_next (stream (here found)) (from (here found)) u.loop-at.at u.next_prefix-end.result u.loop-at.inv step
+      ∙ show_next (stream (here found)) (from (here found)) u.loop-at.at u.next_prefix-end.result u.loop-at.invariant step
 
 pub returns-then-end-body_at : goal.returns-then-end-body_at
-returns-then-end-body_at c = let l = here (goal.at.returns-then-end-body_at c).After-next_prefix-end in show_end (stream l) (from l) l.loop.at l.loop.inv (over (goal.at.returns-then-end-body_at c).After-next_prefix-end c.if-end-body_at.true)
+returns-then-end-body_at c = let l = here (goal.at.returns-then-end-body_at c).After-next_prefix-end in show_end (stream l) (from l) l.loop.at l.loop.invariant (over (goal.at.returns-then-end-body_at c).After-next_prefix-end c.if-end-body_at.true)
 
 pub slice_bounds-body-end : goal.slice_bounds-body-end
 slice_bounds-body-end c = let w = walk (goal.at.slice_bounds-body-end c).After-next_prefix-end c.if-end-body_at.false in omega (arith, w.here.inside)

@@ -21,10 +21,10 @@ module _ (l : At-loop-at) where
 -- the next prefix
 module _ (k : After-next_prefix-end) where
   over : k.next_prefix-end.result < k.loop-at.at + 4 → units_from (stream here) k.loop-at.at ≡ []
-  over = units_over (stream here) k.loop-at.at k.loop-at.inv.here k.loop-at-test.taken k.next_prefix-end.result k.next_prefix-end.ensures
+  over = units_over (stream here) k.loop-at.at k.loop-at.invariant.here k.loop-at-test.taken k.next_prefix-end.result k.next_prefix-end.ensures
 
   walk : k.loop-at.at + 4 ≤ k.next_prefix-end.result → Walked (stream here) k.loop-at.at k.next_prefix-end.result
-  walk = walked (stream here) k.loop-at.at k.loop-at.inv.here k.loop-at-test.taken k.next_prefix-end.result k.next_prefix-end.ensures
+  walk = walked (stream here) k.loop-at.at k.loop-at.invariant.here k.loop-at-test.taken k.next_prefix-end.result k.next_prefix-end.ensures
 
 -- the unit that was read
 module _ (u : After-begins_group) where
@@ -32,7 +32,7 @@ module _ (u : After-begins_group) where
   step = walk found u.if-end-body_at.left
 
 pub returns-then-end-body_at : goal.returns-then-end-body_at
-returns-then-end-body_at c = let l = here (goal.at.returns-then-end-body_at c).After-next_prefix-end in count_end (stream l) (number l) l.loop.skip l.loop.at l.loop.inv (over (goal.at.returns-then-end-body_at c).After-next_prefix-end c.if-end-body_at.true)
+returns-then-end-body_at c = let l = here (goal.at.returns-then-end-body_at c).After-next_prefix-end in count_end (stream l) (number l) l.loop.skip l.loop.at l.loop.invariant (over (goal.at.returns-then-end-body_at c).After-next_prefix-end c.if-end-body_at.true)
 
 pub slice_bounds-group_here-end : goal.slice_bounds-group_here-end
 slice_bounds-group_here-end c = omega (arith, (step (goal.at.slice_bounds-group_here-end c).After-begins_group).here.inside)
@@ -41,13 +41,13 @@ pub group_here-requires : goal.group_here-requires
 group_here-requires c = (step (goal.at.group_here-requires c).After-begins_group).here
 
 pub returns-then-skip-eq0 : goal.returns-then-skip-eq0
-returns-then-skip-eq0 c = let l = here (found (goal.at.returns-then-skip-eq0 c).After-begins_group) in c.group_here.ensures ∙ count_found (stream l) (number l) l.loop.skip l.loop.at _ l.loop.inv (step (goal.at.returns-then-skip-eq0 c).After-begins_group) (sym c.begins_group.ensures ∙ c.if-begins_group.true) c.if-skip-eq0.true
+returns-then-skip-eq0 c = let l = here (found (goal.at.returns-then-skip-eq0 c).After-begins_group) in c.group_here.ensures ∙ count_found (stream l) (number l) l.loop.skip l.loop.at _ l.loop.invariant (step (goal.at.returns-then-skip-eq0 c).After-begins_group) (sym c.begins_group.ensures ∙ c.if-begins_group.true) c.if-skip-eq0.true
 
 pub loop-at-preserved-else-skip-eq0 : goal.loop-at-preserved-else-skip-eq0
-loop-at-preserved-else-skip-eq0 c = let l = here (found (goal.at.loop-at-preserved-else-skip-eq0 c).After-begins_group) in count_group (stream l) (number l) l.loop.skip l.loop.at _ l.loop.inv (step (goal.at.loop-at-preserved-else-skip-eq0 c).After-begins_group) (sym c.begins_group.ensures ∙ c.if-begins_group.true) c.if-skip-eq0.false
+loop-at-preserved-else-skip-eq0 c = let l = here (found (goal.at.loop-at-preserved-else-skip-eq0 c).After-begins_group) in count_group (stream l) (number l) l.loop.skip l.loop.at _ l.loop.invariant (step (goal.at.loop-at-preserved-else-skip-eq0 c).After-begins_group) (sym c.begins_group.ensures ∙ c.if-begins_group.true) c.if-skip-eq0.false
 
 pub loop-at-preserved : goal.loop-at-preserved
-loop-at-preserved c = let l = here (found (goal.at.loop-at-preserved c).After-begins_group) in count_other (stream l) (number l) l.loop.skip l.loop.at _ l.loop.inv (step (goal.at.loop-at-preserved c).After-begins_group) (sym c.begins_group.ensures ∙ c.if-begins_group.false)
+loop-at-preserved c = let l = here (found (goal.at.loop-at-preserved c).After-begins_group) in count_other (stream l) (number l) l.loop.skip l.loop.at _ l.loop.invariant (step (goal.at.loop-at-preserved c).After-begins_group) (sym c.begins_group.ensures ∙ c.if-begins_group.false)
 
 pub returns : goal.returns
 returns c = count_end (stream (goal.at.returns c).At-loop-at) (number (goal.at.returns c).At-loop-at) c.loop-at.skip c.loop-at.at c.loop-at.invariant (units_end (stream (goal.at.returns c).At-loop-at) c.loop-at.at c.loop-at.invariant.here c.loop-at-test.false)

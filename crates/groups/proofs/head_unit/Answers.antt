@@ -14,4 +14,4 @@ pub returns-in-Extension : goal.returns-in-Extension
 returns-in-Extension c = rw c.in-Extension.is c.head_extension.ensures
 
 pub returns-in_default : goal.returns-in_default
-returns-in_default c = let o = last_arm (kind.UserData ∷ kind.Extension ∷ []) c.args.kind c.in_default.keys3 refl in λ rest. let a = c.args in ends_head a.kind a.body.now rest o.0 o.1.0
+returns-in_default c = let o = last_arm (kind.UserData ∷ kind.Extension ∷ []) c.args.kind c.in_default.in_default-own.keys3 refl in λ rest. let a = c.args in ends_head a.kind a.body.now rest o.0 o.1.0

@@ -10,4 +10,4 @@ pub returns-in-SequenceHeader : goal.returns-in-SequenceHeader
 returns-in-SequenceHeader c = rw c.in-SequenceHeader.is
 
 pub returns-in_default : goal.returns-in_default
-returns-in_default c = rw (last_arm (kind.SequenceHeader ∷ []) c.args.kind c.in_default.keys2 refl).0
+returns-in_default c = rw (last_arm (kind.SequenceHeader ∷ []) c.args.kind c.in_default.in_default-own.keys2 refl).0

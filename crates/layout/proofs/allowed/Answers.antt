@@ -27,12 +27,10 @@ pub returns-then-within : goal.returns-then-within
 unfolding allows
 returns-then-within c =
     let v = c.args.v in
-    let g = c.values-in-WithinBut-1.given in
-    ap (λ (t : Bool). t && not (eqb v g.0.1.1.0)) (sym c.if-within.true ∙ c.within-in-WithinBut.ensures) ∙ allows-same _ _ v g.1
+    ap (λ (t : Bool). t && not (eqb v c.in-WithinBut.one)) (sym c.if-within.true ∙ c.within-in-WithinBut.ensures) ∙ allows-same _ _ v c.in-WithinBut.is
 
 pub returns-else-within : goal.returns-else-within
 unfolding allows
 returns-else-within c =
     let v = c.args.v in
-    let g = c.values-in-WithinBut-1.given in
-    c.if-within.false ∙ ap (λ (t : Bool). t && not (eqb v g.0.1.1.0)) (sym c.if-within.false ∙ c.within-in-WithinBut.ensures) ∙ allows-same _ _ v g.1
+    c.if-within.false ∙ ap (λ (t : Bool). t && not (eqb v c.in-WithinBut.one)) (sym c.if-within.false ∙ c.within-in-WithinBut.ensures) ∙ allows-same _ _ v c.in-WithinBut.is

@@ -35,4 +35,4 @@ pub returns-in-9 : goal.returns-in-9
 returns-in-9 c = arm copyright_fields _ 9 _ refl c.in-9.is
 
 pub returns-in_default : goal.returns-in_default
-returns-in_default c = last_arm copyright_fields c.args.i 10 _ refl c.in_default.rest c.requires
+returns-in_default c = last_arm copyright_fields c.args.i 10 _ refl c.in_default.in_default-own.rest c.requires

@@ -26,4 +26,4 @@ pub returns-in-6 : goal.returns-in-6
 returns-in-6 c = arm display_fields _ 6 _ refl c.in-6.is
 
 pub returns-in_default : goal.returns-in_default
-returns-in_default c = last_arm display_fields c.args.i 7 _ refl c.in_default.rest c.requires
+returns-in_default c = last_arm display_fields c.args.i 7 _ refl c.in_default.in_default-own.rest c.requires

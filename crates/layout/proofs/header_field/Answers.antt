@@ -50,4 +50,4 @@ pub returns-in-14 : goal.returns-in-14
 returns-in-14 c = arm header_fields _ 14 _ refl c.in-14.is
 
 pub returns-in_default : goal.returns-in_default
-returns-in_default c = last_arm header_fields c.args.i 15 _ refl c.in_default.rest c.requires
+returns-in_default c = last_arm header_fields c.args.i 15 _ refl c.in_default.in_default-own.rest c.requires

@@ -5,6 +5,7 @@ use mathlib.Core.List.{List}
 use Rattle.answers.specs.Results.{good}
 use Rattle.bits.specs.Bits.{bits_of, payload, read_at, read_within}
 use Rattle.bits.specs.declared.Read.{Read}
+use Rattle.bits.specs.declared.Read.TheVariants.{Value}
 use Rattle.bits.proofs.BitLaws.{within_value, within_missing, never_wide}
 use Rattle.layout.specs.Layouts.{width_of, rule_of}
 use Rattle.layout.specs.Reader.{◌>>◌, ruled}
@@ -13,7 +14,7 @@ use Rattle.layout.specs.declared.Verdict.{Verdict}
 use Rattle.layout.proofs.ReadingLaws.{read_inside, taken_value, taken_fail}
 use borrow.Author.Rules.{rules}
 use Rattle.layout.proofs.read_field.Goals as goal
-use Rattle.layout.proofs.read_field.Goals.{After-read_bits, After-ruled_on}
+use Rattle.layout.proofs.read_field.Goals.{After-read_bits}
 
 module _ (c : After-read_bits) where
   abbrev width : ℕ
@@ -33,20 +34,18 @@ module _ (c : After-read_bits) where
   inside = read_inside (bits_of c.args.body.now) c.args.at width
 
 -- a value that is read, and what is found of it
-judged : (c : After-ruled_on) (w : Verdict) → c.ruled_on.result ≡ w →
-    taken c.args.field c.args.at (bits_of c.args.body.now)
-    ≡ (w >> good c.in-Value.value)
-judged c w e =
+judged : (c : After-read_bits) (v : ℕ) (found w : Verdict) → c.read_bits.result ≡ Value v → found ≡ ruled (rule_of c.args.field) v c.args.at → found ≡ w →
+    taken c.args.field c.args.at (bits_of c.args.body.now) ≡ (w >> good v)
+judged c v found w r first e =
     let a = c.args in
-    let g = c.value-1.given in
-    let first : c.ruled_on.result ≡ ruled (rule_of a.field) g.0.0 a.at = c.ruled_on.ensures in
-    taken_value a.field a.at _ (bits_of a.body.now) (sym (inside c.before.before.before.before) ∙ within_value (before c.before.before.before.before) a.at (width c.before.before.before.before) (narrow c.before.before.before.before) _ (read_is c.before.before.before.before _ g.1)) ∙ ap (λ (x : Verdict). x >> good g.0.0) (sym first ∙ e)
+    taken_value a.field a.at v (bits_of a.body.now) (sym (inside c) ∙ within_value (before c) a.at (width c) (narrow c) v (read_is c _ r))
+    ∙ ap (λ (x : Verdict). x >> good v) (sym first ∙ e)
 
 pub returns-in-Fine : goal.returns-in-Fine
-returns-in-Fine c = sym (judged (goal.at.returns-in-Fine c).After-ruled_on _ c.in-Fine.is)
+returns-in-Fine c = sym (judged (goal.at.returns-in-Fine c).After-read_bits _ _ _ c.in-Value.is c.ruled_on.ensures c.in-Fine.is)
 
 pub returns-in-Faulty : goal.returns-in-Faulty
-returns-in-Faulty c = sym (judged (goal.at.returns-in-Faulty c).After-ruled_on _ c.in-Faulty.is)
+returns-in-Faulty c = sym (judged (goal.at.returns-in-Faulty c).After-read_bits _ _ _ c.in-Value.is c.ruled_on.ensures c.in-Faulty.is)
 
 pub returns-in-Missing : goal.returns-in-Missing
 returns-in-Missing c =

@@ -15,15 +15,15 @@ use Rattle.layout.proofs.LayoutLaws.{table, rest_count}
 use Rattle.layout.proofs.ReadingLaws.{onto, onto_none, taken_step, taken_stop, taken_end}
 use borrow.Author.Rules.{rules}
 use Rattle.layout.proofs.read_fields.Goals as goal
-use Rattle.layout.proofs.read_fields.Goals.{After-field_at-field, After-read_field}
+use Rattle.layout.proofs.read_fields.Goals.{After-field_at-field}
 
 -- a turn's field heads those that are left
 module _ (c : After-field_at-field) where
   abbrev fs : List Field
-  fs = fields point.before.before.before.args.layout
+  fs = fields c.args.layout
 
   abbrev bits : List ℕ
-  bits = bits_of point.before.before.before.args.body.now
+  bits = bits_of c.args.body.now
 
   abbrev field : Field
   field = c.field_at-field.result
@@ -33,12 +33,12 @@ module _ (c : After-field_at-field) where
 
   narrow : width_of field ≤ 32
   narrow =
-      let all = all_drop (λ (f : Field). width_of f ≤ 32) c.loop-i.i fs (table point.before.before.before.args.layout).narrow in
+      let all = all_drop (λ (f : Field). width_of f ≤ 32) c.loop-i.i fs (table c.args.layout).narrow in
       (subst (All (λ (f : Field). width_of f ≤ 32)) c.field_at-field.ensures all).0
 
 -- what a turn took
-took : (c : After-read_field) (x : FieldReading) → c.read_field.result ≡ x → taken (field c.before) c.loop-i.at (bits c.before) ≡ field_says x
-took c x e = sym c.read_field.ensures ∙ ap field_says e
+took : (c : After-field_at-field) (r x : FieldReading) → field_says r ≡ taken (field c) c.loop-i.at (bits c) → r ≡ x → taken (field c) c.loop-i.at (bits c) ≡ field_says x
+took c r x s e = sym s ∙ ap field_says e
 
 pub loop-i-init : goal.loop-i-init
 loop-i-init c = (omega arith, omega arith, refl, onto_none _)
@@ -63,16 +63,16 @@ loop-i-preserved c =
     let e = c.wide-at.ensures in (
       omega arith,
       omega arith,
-      rw length-set p.inv.2,
-      p.inv.3
-          ∙ taken_step (drop p.i (fs (goal.at.loop-i-preserved c).After-field_at-field)) (drop (p.i + 1) (fs (goal.at.loop-i-preserved c).After-field_at-field)) (field (goal.at.loop-i-preserved c).After-field_at-field) p.at p.i c.in-Value.value (bits (goal.at.loop-i-preserved c).After-field_at-field) p.values c.field_at-field.ensures (took (goal.at.loop-i-preserved c).After-read_field _ c.in-Value.is) (omega (arith, (table c.args.layout).few))
+      rw length-set p.invariant.2,
+      p.invariant.3
+          ∙ taken_step (drop p.i (fs (goal.at.loop-i-preserved c).After-field_at-field)) (drop (p.i + 1) (fs (goal.at.loop-i-preserved c).After-field_at-field)) (field (goal.at.loop-i-preserved c).After-field_at-field) p.at p.i c.in-Value.value (bits (goal.at.loop-i-preserved c).After-field_at-field) p.values c.field_at-field.ensures (took (goal.at.loop-i-preserved c).After-field_at-field _ _ c.read_field.ensures c.in-Value.is) (omega (arith, (table c.args.layout).few))
           ∙ ap (λ (n : ℕ). onto (take (p.i + 1) (set p.values p.i c.in-Value.value)) (taken_from (drop (p.i + 1) (fs (goal.at.loop-i-preserved c).After-field_at-field)) (p.at + n) (bits (goal.at.loop-i-preserved c).After-field_at-field))) (sym e),
     )
 
 pub returns-in-Faulty : goal.returns-in-Faulty
 returns-in-Faulty c =
     let p = c.loop-i in
-    sym (p.inv.3 ∙ taken_stop (drop p.i (fs (goal.at.returns-in-Faulty c).After-field_at-field)) (drop (p.i + 1) (fs (goal.at.returns-in-Faulty c).After-field_at-field)) (field (goal.at.returns-in-Faulty c).After-field_at-field) p.at (take p.i p.values) (bits (goal.at.returns-in-Faulty c).After-field_at-field) _ c.field_at-field.ensures (took (goal.at.returns-in-Faulty c).After-read_field _ c.in-Faulty.is))
+    sym (p.invariant.3 ∙ taken_stop (drop p.i (fs (goal.at.returns-in-Faulty c).After-field_at-field)) (drop (p.i + 1) (fs (goal.at.returns-in-Faulty c).After-field_at-field)) (field (goal.at.returns-in-Faulty c).After-field_at-field) p.at (take p.i p.values) (bits (goal.at.returns-in-Faulty c).After-field_at-field) _ c.field_at-field.ensures (took (goal.at.returns-in-Faulty c).After-field_at-field _ _ c.read_field.ensures c.in-Faulty.is))
 
 pub returns : goal.returns
 returns c =

@@ -34,8 +34,7 @@ judged : (c : After-allowed) (t : Bool) → c.allowed.result ≡ t →
 unfolding ruled
 judged c t e =
     let a = c.args in
-    let g = c.rule-1.given in
-    ap (λ (t : Bool). refuse_if (not t) (Value g.0.0 a.at)) (sym e ∙ c.allowed.ensures) ∙ ruled-same a.rule a.value a.at g.1
+    ap (λ (t : Bool). refuse_if (not t) (Value c.in-Judged.field a.at)) (sym e ∙ c.allowed.ensures) ∙ ruled-same a.rule a.value a.at c.in-Judged.is
 
 pub returns-then-allowed : goal.returns-then-allowed
 returns-then-allowed c = judged (goal.at.returns-then-allowed c).After-allowed _ c.if-allowed.true

@@ -50,22 +50,22 @@ returns-then-row_exists c =
     let n = c.wide-length.result in
     let e = (row (goal.at.returns-then-row_exists c).Then-row_exists).row in
     let p : start_of (existing s ws i) ≡ o + 4 = ap start_of e ∙ ap (λ (x : ℕ). x + 4) (sym c.wide-offset.ensures.0) in
-    let q = c.args.stream.ptr in
-    let f : o + 4 + q.1 ≡ q.1 + start_of (existing s ws i) = omega arith in (
-      ap (λ (x : ℕ). take x (drop (o + 4) s)) (add-sub_cancel_left (o + 4) n)
+    let q = c.args.stream.ref_ptr in
+    let f : o + 4 + q.1 ≡ q.1 + start_of (existing s ws i) = omega arith in
+    record {
+      body = ap (λ (x : ℕ). take x (drop (o + 4) s)) (add-sub_cancel_left (o + 4) n)
           ∙ ap (λ (x : ℕ). take n (drop (x + 4) s)) c.wide-offset.ensures.0
           ∙ ap (λ (x : ℕ). take x (drop (get_or ws (i * 3 + 1) 0 + 4) s)) c.wide-length.ensures.0
-          ∙ sym (ap (part_of s) e),
-      ap (λ (x : ℕ). (q.0, x)) f,
-    )
+          ∙ sym (ap (part_of s) e);
+      address = ap (λ (x : ℕ). (q.0, x)) f;
+    }
 
 pub returns-else-row_exists : goal.returns-else-row_exists
 returns-else-row_exists c =
-    let a = (goal.at.returns-else-row_exists c).Start in
-    let s = a.args.stream.now in
-    let ws = a.args.rows.now in
-    let i = a.args.i in
-    let e = no_row s ws i (sym c.row-exists.ensures ∙ c.if1.false) in
-    let q = a.args.stream.ptr in
+    let s = c.args.stream.now in
+    let ws = c.args.rows.now in
+    let i = c.args.i in
+    let e = no_row s ws i (sym c.row_exists.ensures ∙ c.if-row_exists.false) in
+    let q = c.args.stream.ref_ptr in
     let f : q.1 ≡ q.1 + start_of (existing s ws i) = omega (arith, ap start_of e) in
-    (sym (ap (part_of s) e), ap (λ (x : ℕ). (q.0, x)) f)
+    record { body = sym (ap (part_of s) e); address = ap (λ (x : ℕ). (q.0, x)) f }

@@ -41,10 +41,10 @@ returns-in-0-to-175 c = simp (leb-zero, le-leb c.args.code 175 (omega arith))
 pub returns-in_default : goal.returns-in_default
 unfolding kind_of
 returns-in_default c =
-    let m = c.in_default-1.rest in
+    let m = c.in_default.in_default-own.rest in
     simp (
       leb-zero,
-      lt-leb _ _ c.if-code-lt176.false,
+      lt-leb _ _ c.in_default.if-code-lt176-own.false,
       outside _ _ m.1,
       outside _ _ m.0.1,
       outside _ _ m.0.0.1,

@@ -9,7 +9,7 @@ use lib.ListN.{length}
 use Rattle.startcode.specs.Inside.{Leads}
 use Rattle.startcode.proofs.StepLaws.{leads_none, leads_on, leads_one, leads_three, leads_over, ends_there, ends_last}
 use Rattle.startcode.proofs.search.Goals as goal
-use Rattle.startcode.proofs.search.Goals.{Joined-byte-eq1}
+use Rattle.startcode.proofs.search.Goals.{Joined-byte-eq1, then-byte-eq1+else-begins_at, else-byte-eq1+then-byte-eq0, else-byte-eq1+else-byte-eq0}
 
 -- where the arms meet: the next third byte is after the present one and at most two after the stream's end, and one step more
 -- leads to it
@@ -24,22 +24,20 @@ met c =
     let s = c.args.stream.now in
     let k = c.loop-third.third in
     let so_far = c.loop-third.invariant.2 in
-    ⊎_elim
-    (λ w.
-    let one = leads_three s (k - 2) k (omega arith) (omega arith) (sym w.1.ensures ∙ w.2.left) (λ z. omega arith) in
-    record { after = omega arith; near = omega arith; leads = leads_on so_far one (omega arith) (omega arith) })
-    (λ v. ⊎_elim
-    (λ w.
-    let one = leads_one s (k - 2) k (omega arith) (omega arith) w.1.taken in
-    record { after = omega arith; near = omega arith; leads = leads_on so_far one (omega arith) (omega arith) })
-    (λ w.
-    let run = w.2.ensures in
-    let one = leads_on so_far (leads_over s (k - 2) k (omega arith) (omega arith) (omega arith)) (omega arith) refl in
-    let forth = run.leads.onward in
-    let inside = run.inside in
-    record { after = omega arith; near = omega arith; leads = leads_on one run.leads (omega arith) (omega arith) })
-    v)
-    c.if-byte-eq1.branch
+    elim c.if-byte-eq1.branch [
+      | then-byte-eq1+else-begins_at w ↦
+          let one = leads_three s (k - 2) k (omega arith) (omega arith) (sym w.begins_at.ensures ∙ w.if-begins_at.false) (λ z. omega arith) in
+          record { after = omega arith; near = omega arith; leads = leads_on so_far one (omega arith) (omega arith) }
+      | else-byte-eq1+then-byte-eq0 w ↦
+          let one = leads_one s (k - 2) k (omega arith) (omega arith) w.if-byte-eq0.true in
+          record { after = omega arith; near = omega arith; leads = leads_on so_far one (omega arith) (omega arith) }
+      | else-byte-eq1+else-byte-eq0 w ↦
+          let run = w.steps_of_three-run.ensures in
+          let one = leads_on so_far (leads_over s (k - 2) k (omega arith) (omega arith) (omega arith)) (omega arith) refl in
+          let forth = run.leads.onward in
+          let inside = run.inside in
+          record { after = omega arith; near = omega arith; leads = leads_on one run.leads (omega arith) (omega arith) }
+    ]
 
 pub returns-then-n-le2 : goal.returns-then-n-le2
 returns-then-n-le2 c = ends_last (leads_none _ _) (omega arith)

@@ -2,7 +2,6 @@
 use mathlib.Core.Path.{◌≡◌, sym, ap, ◌∙◌}
 use mathlib.Core.Bool.{true}
 use borrow.Author.Rules.{rules}
-use borrow.Author.Tests.{not-true, not-false}
 use Rattle.bodies.specs.Extensions.{numbered}
 use Rattle.grammar.specs.Reader.{by}
 use Rattle.grammar.specs.declared.State.TheVariants.{Head}
@@ -11,10 +10,10 @@ use Rattle.steps.proofs.head_extension.Goals as goal
 use Rattle.steps.proofs.head_extension.Goals.{Else-not-is_display}
 
 shown : (e : Else-not-is_display) → numbered 2 e.args.body.now ≡ true
-shown e = sym e.is_display.ensures ∙ not-false _ e.if-not-is_display.false
+shown e = sym e.is_display.ensures ∙ e.if-not-is_display.false
 
 pub returns-then-not-is_display : goal.returns-then-not-is_display
-returns-then-not-is_display c = rw (sym c.is_display.ensures ∙ not-true _ c.if-not-is_display.true) c.extension_step.ensures
+returns-then-not-is_display c = rw (sym c.is_display.ensures ∙ c.if-not-is_display.true) c.extension_step.ensures
 
 pub returns-then-display_short : goal.returns-then-display_short
 returns-then-display_short c = rw (shown (goal.at.returns-then-display_short c).Else-not-is_display, sym c.display_short.ensures ∙ c.if-display_short.true)

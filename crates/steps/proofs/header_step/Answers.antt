@@ -29,7 +29,7 @@ same_rule h tested rows p q = λ i. record { tested = p i; rows = q i }
 
 pub returns-in-Header : goal.returns-in-Header
 unfolding header_gives
-returns-in-Header c = let g = c.h-1.given in ap (λ (r : SliceRule). Go (Head r false)) (same_rule g.0.0 _ _ c.slices_tested.ensures c.macroblock_rows.ensures) ∙ given (goal.at.returns-in-Header c).After-sequence_header g.1
+returns-in-Header c = ap (λ (r : SliceRule). Go (Head r false)) (same_rule c.in-Header.h _ _ c.slices_tested.ensures c.macroblock_rows.ensures) ∙ given (goal.at.returns-in-Header c).After-sequence_header c.in-Header.is
 
 pub returns-in-Refused : goal.returns-in-Refused
 unfolding header_gives

@@ -25,4 +25,4 @@ pub returns-in-EditCode : goal.returns-in-EditCode
 returns-in-EditCode c = rw c.in-EditCode.is c.ending_step-in-EditCode.ensures
 
 pub returns-in_default : goal.returns-in_default
-returns-in_default c = let o = last_arm (kind.Slice ∷ kind.IPicture ∷ kind.PBPicture ∷ kind.SequenceHeader ∷ kind.SequenceEnd ∷ kind.EditCode ∷ []) c.args.kind c.in_default.keys7 refl in rw (o.0, o.1.0, o.1.1.0, o.1.1.1.0, o.1.1.1.1.0, o.1.1.1.1.1.0)
+returns-in_default c = let o = last_arm (kind.Slice ∷ kind.IPicture ∷ kind.PBPicture ∷ kind.SequenceHeader ∷ kind.SequenceEnd ∷ kind.EditCode ∷ []) c.args.kind c.in_default.in_default-own.keys7 refl in rw (o.0, o.1.0, o.1.1.0, o.1.1.1.0, o.1.1.1.1.0, o.1.1.1.1.1.0)

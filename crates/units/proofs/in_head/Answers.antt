@@ -3,7 +3,7 @@ use mathlib.Core.Path.{refl}
 use mathlib.Core.List.{[], ◌∷◌}
 use borrow.Author.Rules.{rules}
 use Rattle.startcode.specs.declared.Kind.TheVariants as kind
-use Rattle.grammar.proofs.KindLaws.{last_arm}
+use Rattle.grammar.proofs.KindLaws.{other_kind}
 use Rattle.units.proofs.in_head.Goals as goal
 
 pub returns-in-UserData : goal.returns-in-UserData
@@ -16,4 +16,4 @@ pub returns-in-IPicture : goal.returns-in-IPicture
 returns-in-IPicture c = rw c.in-IPicture.is c.picture_step.ensures
 
 pub returns-in_default : goal.returns-in_default
-returns-in_default c = let o = last_arm (kind.UserData ∷ kind.Extension ∷ kind.IPicture ∷ []) c.args.kind c.in_default.keys4 refl in rw (o.0, o.1.0, o.1.1.0)
+returns-in_default c = rw (other_kind c.args.kind kind.UserData c.in_default.not-UserData, other_kind c.args.kind kind.Extension c.in_default.not-Extension, other_kind c.args.kind kind.IPicture c.in_default.not-IPicture)

@@ -10,7 +10,7 @@ use Rattle.grammar.specs.Reader.{same_kind, choose, table}
 use Rattle.grammar.specs.declared.State.TheVariants.{Start, Ended}
 use Rattle.grammar.specs.declared.Reason.TheVariants.{OutOfPlace}
 use Rattle.grammar.specs.declared.Step.TheVariants.{Stop}
-use Rattle.grammar.proofs.KindLaws.{last_arm}
+use Rattle.grammar.proofs.KindLaws.{other_kind}
 use Rattle.units.proofs.outside_groups.Goals as goal
 
 -- whichever table it is, the kind is not its own
@@ -31,4 +31,4 @@ pub returns-else-ended-2 : goal.returns-else-ended-2
 returns-else-ended-2 c = rw (c.in-EditCode.is, c.if-ended-2.false)
 
 pub returns-in_default : goal.returns-in_default
-returns-in_default c = let o = last_arm (kind.SequenceHeader ∷ kind.EditCode ∷ []) c.args.kind c.in_default.keys3 refl in let a = c.args in neither a.ended a.kind _ o.0 o.1.0
+returns-in_default c = let a = c.args in neither a.ended a.kind _ (other_kind a.kind kind.SequenceHeader c.in_default.not-SequenceHeader) (other_kind a.kind kind.EditCode c.in_default.not-EditCode)

@@ -4,7 +4,6 @@ use mathlib.Core.Path.{◌≡◌, sym, ap, ◌∙◌}
 use mathlib.Core.Bool.{true, false}
 use native.Mathlib.Omega.{arith}
 use borrow.Author.Rules.{rules}
-use borrow.Author.Tests.{not-true, not-false}
 use lib.ListN.{length, drop}
 use Rattle.startcode.specs.Prefix.{begins}
 use Rattle.grammar.proofs.WalkLaws.{prefix_fits, unit_between, next_fits}
@@ -15,12 +14,12 @@ use Rattle.units.proofs.unit_at.Goals.{After-prefix_at-2, After-shared_slice_kno
 
 -- a prefix stands at the offset, with a code byte after it and no other prefix at that
 here : (e : Else-not-prefix_at) → begins (drop e.args.at e.args.stream.now) ≡ true
-here e = sym e.prefix_at.ensures ∙ not-false _ e.if-not-prefix_at.false
+here e = sym e.prefix_at.ensures ∙ e.if-not-prefix_at.false
 
 inside : (p : After-prefix_at-2) → p.args.at + 3 < length p.args.stream.now
 inside p =
     let a = p.args in
-    let f = prefix_fits a.stream.now a.at (here p.before.before) in
+    let f = prefix_fits a.stream.now a.at (sym p.prefix_at.ensures ∙ p.if-not-prefix_at.false) in
     let n = p.if-stream-code_at.false in
     omega arith
 
@@ -32,12 +31,15 @@ fits : (c : After-shared_slice_known-2-1) →
     (a.at + 4 ≤ c.next_prefix-end.result) × (c.next_prefix-end.result ≤ length a.stream.now)
 fits c =
     let a = c.args in
-    let f = next_fits a.stream.now a.at (here c.before.before.before.before.before) (inside c.before.before.before) (alone c.before.before) in
+    let h = sym c.prefix_at.ensures ∙ c.if-not-prefix_at.false in
+    let m = c.if-stream-code_at.false in
+    let p = prefix_fits a.stream.now a.at h in
+    let f = next_fits a.stream.now a.at h (omega arith) (sym c.prefix_at-2.ensures ∙ c.if-prefix_at.false) in
     let n = c.next_prefix-end.ensures in
     (omega (arith, f.0), omega (arith, f.1))
 
 pub returns-then-not-prefix_at : goal.returns-then-not-prefix_at
-returns-then-not-prefix_at c = let a = c.args in unit_none a.stream.now a.state a.at (sym c.prefix_at.ensures ∙ not-true _ c.if-not-prefix_at.true)
+returns-then-not-prefix_at c = let a = c.args in unit_none a.stream.now a.state a.at (sym c.prefix_at.ensures ∙ c.if-not-prefix_at.true)
 
 pub overflow_add-code_at : goal.overflow_add-code_at
 overflow_add-code_at c = let a = c.args in omega (arith, prefix_fits a.stream.now a.at (here c))

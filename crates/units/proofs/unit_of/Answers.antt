@@ -16,30 +16,27 @@ use Rattle.units.specs.Reader.{next_of, unit_from}
 use Rattle.units.specs.declared.UnitAnswer.TheVariants as answer
 use Rattle.units.proofs.LengthLaws.{length_same}
 use Rattle.units.proofs.unit_of.Goals as goal
-use Rattle.units.proofs.unit_of.Goals.{After-in_state, Start}
-
-abbrev unit-of : Start → StreamUnit
-unit-of s = record { code = s.args.code; body = s.args.body.now }
+use Rattle.units.proofs.unit_of.Goals.{After-in_state}
 
 -- a unit whose kind is known
 module _ (t : After-in_state) where
   abbrev u : StreamUnit
-  u = unit-of start
+  u = record { code = t.args.code; body = t.args.body.now }
 
-  abbrev the-length : ℕ
-  the-length = row_length (placed (scope_in named.before.before.before.before.args.state u) u)
+  abbrev the_length : ℕ
+  the_length = row_length (placed (scope_in t.args.state u) u)
 
   is : kind_of u.code ≡ done t.in-Is.kind
   is = sym t.kind_of.ensures ∙ ap kind_says t.in-Is.is
 
-  answered : {y : Step} → t.in_state.result ≡ y → next_of y named.before.before.before.before.args.end the-length ≡ unit_from named.before.before.before.before.args.state u named.before.before.before.before.args.end
+  answered : {y : Step} → t.in_state.result ≡ y → next_of y t.args.end the_length ≡ unit_from t.args.state u t.args.end
   unfolding step
   answered e =
-      ap (λ (y : Step). next_of y named.before.before.before.before.args.end the-length)
-      (sym e ∙ t.in_state.ensures ∙ ap (λ (o : Outcome Kind). by_kind o (λ k. choose k (table named.before.before.before.before.args.state u))) (sym is))
+      ap (λ (y : Step). next_of y t.args.end the_length)
+      (sym e ∙ t.in_state.ensures ∙ ap (λ (o : Outcome Kind). by_kind o (λ k. choose k (table t.args.state u))) (sym is))
 
 pub returns-in-Go : goal.returns-in-Go
-returns-in-Go c = let g = c.next-1.given in let k = c.kind-1.given.0.0 in let b = (u (goal.at.returns-in-Go c).After-in_state).body in ap (λ (n : ℕ). answer.Next g.0.0 c.args.end n) (c.length_in.ensures ∙ ap (λ (p : Scope). length (cond (whole_body (done k) p b) b (trimmed b))) c.scope_in-scope.ensures ∙ length_same c.args.state k (u (goal.at.returns-in-Go c).After-in_state) (is (goal.at.returns-in-Go c).After-in_state)) ∙ answered (goal.at.returns-in-Go c).After-in_state g.1
+returns-in-Go c = let b = (u (goal.at.returns-in-Go c).After-in_state).body in ap (λ (n : ℕ). answer.Next c.in-Go.next c.args.end n) (c.length_in.ensures ∙ ap (λ (p : Scope). length (cond (whole_body (done c.in-Is.kind) p b) b (trimmed b))) c.scope_in-scope.ensures ∙ length_same c.args.state c.in-Is.kind (u (goal.at.returns-in-Go c).After-in_state) (is (goal.at.returns-in-Go c).After-in_state)) ∙ answered (goal.at.returns-in-Go c).After-in_state c.in-Go.is
 
 pub returns-in-Stop : goal.returns-in-Stop
 returns-in-Stop c = answered (goal.at.returns-in-Stop c).After-in_state c.in-Stop.is
