@@ -30,10 +30,9 @@ PROGRAM = rust/target/release/avsplus
 # The proved static library, target/staticlib/libavsplus.a.
 library: $(LIBRARY)
 
-# Proved again only where a source is newer. Where `rt` sees that nothing has changed and leaves the file, it is as new as they.
-$(LIBRARY): crates.txt $(shell find crates -type f)
-	rt staticlib avsplus >/dev/null
-	touch $@
+# Proved again only where a source is newer. What `rt` itself keeps, in crates/NAME/out, is no source.
+$(LIBRARY): crates.txt $(shell find crates -type f -not -path 'crates/*/out/*')
+	scripts/library
 
 # The command line, rust/target/release/avsplus.
 program: $(PROGRAM)

@@ -12,7 +12,7 @@ import re
 import sys
 
 PROVED = ("Reader", "Inside")
-IMPORT = re.compile(r"(?:pub )?use Rattle·[^\s.]+\.specs\.(\w+)")
+IMPORT = re.compile(r"(?:pub )?use Rattle\.\w+\.specs\.(\w+)")
 
 
 def main():

@@ -43,6 +43,9 @@ WORDS = {
     "Extension": "EXTENSION_UNIT",
 }
 
+# An exported function: its name, parameters and result.
+EXPORTED = r'#\[unsafe\(no_mangle\)\]\npub extern "C" fn (\w+)\(([^)]*)\) -> (\w+)'
+
 # Values that are written as names.
 NAMED = {
     "UINT32_MAX": 2**32 - 1,
@@ -63,9 +66,9 @@ def split(parameters):
 
 
 def capitals(word):
-    """A word of the sources as the header has it: sequenceHeader and sequence-header are SEQUENCE_HEADER."""
-    parted = re.sub(r"(?<=[a-z])(?=[A-Z])|(?<=[A-Z])(?=[A-Z][a-z])|-", "_", word)
-    return WORDS.get(word, parted.upper().replace("-", ""))
+    """A word of the sources as the header has it: SequenceHeader and sequence_header are SEQUENCE_HEADER."""
+    parted = re.sub(r"(?<=[a-z])(?=[A-Z])|(?<=[A-Z])(?=[A-Z][a-z])", "_", word)
+    return WORDS.get(word, parted.upper())
 
 
 # ── functions and structs ──
@@ -73,14 +76,14 @@ def capitals(word):
 
 def exported():
     """Of each exported function its parameters' types and its result, as C and as Rust has them."""
-    for name, parameters, result in re.findall(r'pub extern "C" fn (\w+)\(([^)]*)\) -> (\w+)', read("crates/avsplus/src/lib.rt")):
+    for name, parameters, result in re.findall(EXPORTED, read("crates/avsplus/src/lib.rt")):
         types = [TYPES[p.split(": ", 1)[1]] for p in split(parameters)]
         yield name, [(",".join(t[k] for t in types), TYPES[result][k]) for k in (0, 1)]
 
 
 def source_structs():
     text = "".join(read(f"crates/{crate}/src/lib.rt") for crate in ("statuses", "marked", "contexts", "aec"))
-    for name, body in re.findall(r"#\[repr\(C\)\]\npub struct (\w+) \{(.*?)\n\}", text, re.S):
+    for name, body in re.findall(r"#\[repr\(C\)\]\n(?:#\[derive[^\n]*\n)?pub struct (\w+) \{(.*?)\n\}", text, re.S):
         yield name, [re.match(r"pub (\w+): (\w+),", line.strip()).groups() for line in body.strip().split("\n")]
 
 
@@ -95,7 +98,7 @@ def clauses(text, function):
 def value(text, function, pattern=""):
     """The number that a definition's clause is."""
     (found,) = [right.strip() for left, right in clauses(text, function) if left == pattern]
-    negative = re.fullmatch(r"negℤ \(pos (\d+)\)", found)
+    negative = re.fullmatch(r"neg_ℤ \(pos (\d+)\)", found)
     return -int(negative[1]) if negative else int(found)
 
 
@@ -104,9 +107,9 @@ def items(text, function, pattern, without):
     `without` are not given."""
     wanted = "NotGiven" if function in without else pattern
     right = next(right for left, right in clauses(text, function) if wanted in left)
-    prefix = capitals(function.replace("Numbers", ""))
+    prefix = capitals(function.replace("_numbers", ""))
     for item in re.split(r"∷|\+\+", right):
-        inner = re.match(r"\s*(\w+Numbers) ", item)
+        inner = re.match(r"\s*(\w+_numbers) ", item)
         if inner:
             yield from items(text, inner[1], "", without)
         elif item.strip() not in ("[]", "words rs"):
@@ -120,7 +123,7 @@ def listed(function, pattern="", without=()):
 
 def statuses():
     yield "DONE", int(re.search(r"^counted \(done n\) = record \{ status = (\d+);", read("crates/statuses/specs/Answers.antt"), re.M)[1])
-    for name, number in re.findall(r"^([A-Z-]+) = (\d+)$", read("crates/answers/specs/Answers.antt"), re.M):
+    for name, number in re.findall(r"^([A-Z_]+) = (\d+)$", read("crates/answers/specs/Answers.antt"), re.M):
         yield capitals(name), int(number)
 
 

@@ -1,6 +1,6 @@
 #!/usr/bin/env python3
 """Each public function of the library has an `ensures` and no `requires`, and its `ensures` say what is in all memory lent to it
-afterwards: `NAME .exit` for each `&mut` parameter NAME. A line for each that falls short, and exit 1.
+afterwards: `NAME.new` for each `&mut` parameter NAME. A line for each that falls short, and exit 1.
 
 The programs that rt ci runs have no public functions, and are passed over.
 """
@@ -44,7 +44,7 @@ def faults(text):
     if not ensures:
         yield "has no ensures"
     for name in re.findall(r"(\w+): &(?:'\w+ )?mut\b", signature):
-        if not any(re.search(rf"(?<!\w)«?{name}»? \.exit\b", clause) for clause in ensures):
+        if not any(re.search(rf"(?<!\w)«?{name}»?\.new\b", clause) for clause in ensures):
             yield f"does not say what is in {name} afterwards"
 
 

@@ -19,7 +19,7 @@ class Questions:
 
     def calls(self, name):
         """The numbers of each call, in the order of the source."""
-        for found in re.finditer(rf"^    {name}\(([\dxA-F, ]+)\);$", self.source, re.M):
+        for found in re.finditer(rf"^    {name}\(&?rt, ([\dxA-F, ]+)\)(?:\?;)?$", self.source, re.M):
             yield [int(n, 0) for n in found[1].split(",")]
 
 

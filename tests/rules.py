@@ -79,13 +79,13 @@ def formulas(heading):
 
 def numbers():
     """The number of each refusal by its name in the definitions."""
-    return dict(re.findall(r"^([A-Z-]+) = (\d+)$", read("crates/answers/specs/Answers.antt"), re.M))
+    return dict(re.findall(r"^([A-Z_]+) = (\d+)$", read("crates/answers/specs/Answers.antt"), re.M))
 
 
 def refusal(name):
     """A refusal's name as the page has it: OUT_OF_PLACE is OUT OF PLACE, and VALUE_SLICE_ROW is VALUE of slice row."""
-    field = re.fullmatch("VALUE-(.*)", name)
-    return f"VALUE of {field[1].lower()}".replace("-", " ") if field else name.replace("-", " ")
+    field = re.fullmatch("VALUE_(.*)", name)
+    return f"VALUE of {field[1].lower()}".replace("_", " ") if field else name.replace("_", " ")
 
 
 def refusals():
@@ -150,7 +150,7 @@ def judged():
     for layout, _, _, body in LAYOUTS:
         for at, width, name, rule in layout_fields(layout):
             if rule[0] in ("Set", "Judged"):
-                yield "MARKER" if rule[0] == "Set" else f"VALUE-{rule[1].upper()}", body, [(name, at, width)]
+                yield "MARKER" if rule[0] == "Set" else f"VALUE_{rule[1].upper()}", body, [(name, at, width)]
     places = {name: (name, at, width) for at, width, name, _ in layout_fields("copyright_fields")}
     yield from ((name, "copyright extension", [places[field] for field in about]) for name, about in ACROSS.items())
 
@@ -159,7 +159,7 @@ def across():
     """The rules across a copyright extension's fields: the refusal, and the field whose first bit it has."""
     text = read("crates/layout/specs/Breaks.antt")
     for field, judged_field in re.findall(r"\bBegins Copyright (\w+) at → why ≡ fault\.Value (\w+) at\b", text):
-        yield "VALUE-" + re.sub(r"(?<=[a-z])(?=[A-Z])", "-", judged_field).upper(), field
+        yield "VALUE_" + re.sub(r"(?<=[a-z])(?=[A-Z])", "_", judged_field).upper(), field
 
 
 def bits():
@@ -186,7 +186,7 @@ def ratios(name, others):
     """The codes of a table of fractions, and what is said of every code that has none."""
     text = read("crates/ratios/specs/Ratios.antt")
     (body,) = re.findall(rf"^{name} =(.*?)\[\]", text, re.M | re.S)
-    (begins,) = re.findall(rf"= entryOf (\d+) {name} ", text)
+    (begins,) = re.findall(rf"= entry_of (\d+) {name} ", text)
     fractions = [n if d == "1" else f"{n}/{d}" for n, d in re.findall(r"(\d+) over (\d+)", body)]
     yield from ((str(int(begins) + i), said) for i, said in enumerate(fractions))
     yield "any other", others
@@ -194,14 +194,14 @@ def ratios(name, others):
 
 def said(formula):
     """A formula over a header record h in the page's words."""
-    return re.sub(r"h \.(\w+)", r"\1 size", formula).replace("*", "×")
+    return re.sub(r"h\.(\w+)", r"\1 size", formula).replace("*", "×")
 
 
 def macroblocks():
     """Columns and rows; these have two formulas, by progressive, which is one bit."""
     text = read("crates/macroblocks/specs/Macroblocks.antt")
-    (columns,) = re.findall(r"^macroblockColumns h = (.*)$", text, re.M)
-    ((interlaced, progressive),) = re.findall(r"^macroblockRows h = cond \(eqb \(h \.progressive\) 0\) \((2.*)\) \((\(h.*)\)$", text, re.M)
+    (columns,) = re.findall(r"^macroblock_columns h = (.*)$", text, re.M)
+    ((interlaced, progressive),) = re.findall(r"^macroblock_rows h = cond \(eqb h\.progressive 0\) \((2.*)\) \((\(h.*)\)$", text, re.M)
     yield "macroblock columns", said(columns), ""
     yield "macroblock rows", said(interlaced), "where progressive is 0"
     yield "macroblock rows", said(progressive), "where progressive is 1"

@@ -204,7 +204,7 @@ STATES = [[START], [HEAD, 1, 68, 0], [HEAD, 1, 68, 1], [PICTURE, 1, 68, 0], [SLI
 
 
 def units():
-    places = [int(n) for n in re.findall(r"^    unit\(k, (\d+)\);$", ASKED.source, re.M)]
+    places = [int(n) for n in re.findall(r"^    unit\(rt, k, (\d+)\)(?:\?;)?$", ASKED.source, re.M)]
     for k, in ASKED.calls("units_in"):
         for at in places:
             try:

@@ -6,157 +6,155 @@ use bodies::{HeaderAnswer, SequenceHeader};
 use filing::FilingAnswer;
 use grammar::Reason;
 use layout::Fault;
-use libc::STDOUT_FILENO;
+use std::io;
 
 // ── what is written ──
 
-fn say(s: &[u8]) {
-    io::write_all(STDOUT_FILENO, s);
+fn say(rt: &impl Print, s: &[u8]) -> io::Result<()> {
+    rt.write_all(s)
 }
 
-fn end() {
-    say(b"\n");
+fn end(rt: &impl Print) -> io::Result<()> {
+    say(rt, b"\n")
 }
 
 // A space and a number, put into spaces.
-fn number(n: u64) {
+fn number(rt: &impl Print, n: u64) -> io::Result<()> {
     let mut out = [b' '; 21];
     let next = text::put_number(&mut out, 1, n);
-    let length = io::count(next as isize, &out);
-    say(&out[..length]);
+    say(rt, &out[..next])
 }
 
-fn small(n: u32) {
-    number(n as u64);
+fn small(rt: &impl Print, n: u32) -> io::Result<()> {
+    number(rt, n as u64)
 }
 
-fn size(n: usize) {
-    number(n as u64);
+fn size(rt: &impl Print, n: usize) -> io::Result<()> {
+    number(rt, n as u64)
 }
 
-fn example(n: u32) {
-    say(b"example");
-    small(n);
+fn example(rt: &impl Print, n: u32) -> io::Result<()> {
+    say(rt, b"example")?;
+    small(rt, n)
 }
 
 // ── H ──
 
-fn header(h: SequenceHeader) {
-    say(b"H");
-    small(h.horizontal);
-    small(h.vertical);
-    small(h.bitrate);
-    small(macroblocks::macroblock_columns(h));
-    small(macroblocks::macroblock_rows(h));
-    end();
+fn header(rt: &impl Print, h: SequenceHeader) -> io::Result<()> {
+    say(rt, b"H")?;
+    small(rt, h.horizontal)?;
+    small(rt, h.vertical)?;
+    small(rt, h.bitrate)?;
+    small(rt, macroblocks::macroblock_columns(h))?;
+    small(rt, macroblocks::macroblock_rows(h))?;
+    end(rt)
 }
 
-fn header_answer(a: HeaderAnswer) {
+fn header_answer(rt: &impl Print, a: HeaderAnswer) -> io::Result<()> {
     match a {
-        HeaderAnswer::Header(h) => header(h),
-        HeaderAnswer::Refused(_) => end(),
+        HeaderAnswer::Header(h) => header(rt, h),
+        HeaderAnswer::Refused(_) => end(rt),
     }
 }
 
-fn example_header() {
+fn example_header(rt: &impl Print) -> io::Result<()> {
     let h = b"\x48\x40\x0F\x00\x21\xC2\x4C\xC4\xE2\x08\x00\x20\x02\x00\x80";
-    header_answer(bodies::sequence_header(h));
+    header_answer(rt, bodies::sequence_header(h))
 }
 
 // ── examples 1 to 7: streams ──
 
-fn no_bit() {
-    say(b" -");
+fn no_bit(rt: &impl Print) -> io::Result<()> {
+    say(rt, b" -")
 }
 
-fn fault_bit(f: Fault) {
+fn fault_bit(rt: &impl Print, f: Fault) -> io::Result<()> {
     match f {
-        Fault::Short => no_bit(),
-        Fault::Marker(at) => size(at),
-        Fault::Value(_, at) => size(at),
-        Fault::Stuffing => no_bit(),
+        Fault::Short => no_bit(rt),
+        Fault::Marker(at) => size(rt, at),
+        Fault::Value(_, at) => size(rt, at),
+        Fault::Stuffing => no_bit(rt),
     }
 }
 
-fn bit(why: Reason) {
+fn bit(rt: &impl Print, why: Reason) -> io::Result<()> {
     match why {
-        Reason::Body(f) => fault_bit(f),
-        Reason::SliceOrder => number(0),
-        Reason::SliceRow => number(0),
-        _ => no_bit(),
+        Reason::Body(f) => fault_bit(rt, f),
+        Reason::SliceOrder => number(rt, 0),
+        Reason::SliceRow => number(rt, 0),
+        _ => no_bit(rt),
     }
 }
 
-fn answer(a: FilingAnswer) {
+fn answer(rt: &impl Print, a: FilingAnswer) -> io::Result<()> {
     match a {
         FilingAnswer::Filed(totals) => {
-            number(0);
-            size(totals.units);
+            number(rt, 0)?;
+            size(rt, totals.units)
         }
         FilingAnswer::Refused(refusal) => {
             let why = refusal.reason;
-            small(grammar::reason_number(why));
-            size(refusal.offset);
-            bit(why);
+            small(rt, grammar::reason_number(why))?;
+            size(rt, refusal.offset)?;
+            bit(rt, why)
         }
     }
 }
 
-fn words(rows: &[u32]) {
-    let mut i: usize = 0;
-    while i < rows.len() {
-        small(rows[i]);
-        i += 1;
+fn words(rt: &impl Print, rows: &[u32]) -> io::Result<()> {
+    for word in rows {
+        small(rt, *word)?;
     }
+    Ok(())
 }
 
 // The answer, and every word lent.
-fn file(stream: &[u8], rows: &mut [u32]) {
-    answer(filing::file(stream, rows));
-    words(rows);
-    end();
+fn file(rt: &impl Print, stream: &[u8], rows: &mut [u32]) -> io::Result<()> {
+    answer(rt, filing::file(stream, rows))?;
+    words(rt, rows)?;
+    end(rt)
 }
 
 // Twelve words, each 9 before the call; or eleven.
-fn filed(stream: &[u8]) {
+fn filed(rt: &impl Print, stream: &[u8]) -> io::Result<()> {
     let mut rows = [9u32; 12];
-    file(stream, &mut rows);
+    file(rt, stream, &mut rows)
 }
 
-fn filed_in_eleven(stream: &[u8]) {
+fn filed_in_eleven(rt: &impl Print, stream: &[u8]) -> io::Result<()> {
     let mut rows = [9u32; 11];
-    file(stream, &mut rows);
+    file(rt, stream, &mut rows)
 }
 
 const STREAM: [u8; 33] =
     *b"\x00\x00\x01\xB0\x48\x40\x0F\x00\x21\xC2\x4C\xC4\xE2\x08\x00\x20\x02\x00\x80\x00\x00\x01\xB3\x80\x00\x00\x01\x00\x80\x00\x00\x01\xB1";
 
 // Example 1's stream, with these as H's last byte and the slice's code byte, and so many of its bytes lent.
-fn example_stream(n: u32, lent: isize, last: u8, slice: u8) {
+fn example_stream(rt: &impl Print, n: u32, lent: usize, last: u8, slice: u8) -> io::Result<()> {
     let mut stream = STREAM;
     stream[18] = last;
     stream[27] = slice;
-    let length = io::count(lent, &stream);
-    example(n);
+    let length = lent.min(stream.len());
+    example(rt, n)?;
     if n == 2 {
-        filed_in_eleven(&stream[..length]);
+        filed_in_eleven(rt, &stream[..length])
     } else {
-        filed(&stream[..length]);
+        filed(rt, &stream[..length])
     }
 }
 
-fn example_streams() {
-    example_stream(1, 33, 0x80, 0x00);
-    example_stream(2, 33, 0x80, 0x00);
-    example_stream(3, 29, 0x80, 0x00);
-    example_stream(4, 32, 0x80, 0x00);
-    example_stream(5, 0, 0x80, 0x00);
-    example_stream(6, 33, 0x00, 0x00);
-    example_stream(7, 33, 0x80, 0x44);
-    example_stream(7, 33, 0x80, 0x43);
+fn example_streams(rt: &impl Print) -> io::Result<()> {
+    example_stream(rt, 1, 33, 0x80, 0x00)?;
+    example_stream(rt, 2, 33, 0x80, 0x00)?;
+    example_stream(rt, 3, 29, 0x80, 0x00)?;
+    example_stream(rt, 4, 32, 0x80, 0x00)?;
+    example_stream(rt, 5, 0, 0x80, 0x00)?;
+    example_stream(rt, 6, 33, 0x00, 0x00)?;
+    example_stream(rt, 7, 33, 0x80, 0x44)?;
+    example_stream(rt, 7, 33, 0x80, 0x43)
 }
 
-fn main() {
-    example_header();
-    example_streams();
+fn main(rt: HostRuntime) -> io::Result<()> {
+    example_header(&rt)?;
+    example_streams(&rt)
 }

@@ -1,8 +1,5 @@
 -- The bytes before the index have been put.
-use Prim.Native.Nat.{◌-◌, ◌≤◌}
 use borrow.Author.Rules.{rules}
-use lib.ListN.{length, take}
-use Rattle.text.specs.Text.{Put}
 use Rattle.text.proofs.PutLaws.{put_none, put_more, put_all, put_length}
 use Rattle.text.proofs.put.Goals as goal
 

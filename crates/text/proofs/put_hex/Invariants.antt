@@ -1,11 +1,7 @@
 -- The pairs of the bytes before the index have been put.
 use Prim.Native.Nat.{◌-◌, ◌≤◌}
-use mathlib.Core.Path.{sym}
-use borrow.Author.Rules.{rules}
 use lib.ListN.{length, take}
 use Rattle.text.specs.Text.{Put, pairs}
-use Rattle.text.proofs.PutLaws.{put_none, put_then, put_same, put_length}
-use Rattle.text.proofs.SpellingLaws.{pairs_none, pairs_more, hex_none, hex_some}
 use Rattle.text.proofs.put_hex.Given as goal
 
 abbrev pub invariant-loop-k : goal.invariant-loop-k

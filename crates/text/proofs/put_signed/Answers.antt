@@ -1,4 +1,3 @@
-use borrow.Author.Rules.{rules}
 use Rattle.text.proofs.PutLaws.{put_then, put_same}
 use Rattle.text.proofs.SpellingLaws.{signed_minus, signed_plain}
 use Rattle.text.proofs.put_signed.Goals as goal
