@@ -15,7 +15,7 @@ use Rattle.groups.proofs.Theorems as proof
 
 -- Of a stream within the limit and with a reading: the record of the reading's group g, or NO ROW where it has no such group.
 pub group_is_lem : (s : List ℕ) (r : Reading) → length s ≤ longest_stream → Reads s r → (g : ℕ) → GroupOfReading r g (group_at s g)
-group_is_lem s r h k g = proof.group_is s g r h k
+group_is_lem s r h k g = proof.group_is_lem s g r h k
 
 -- Of any stream: a record, NO ROW and a refusal, each exactly where it is answered.
 pub group_exactly : (s : List ℕ) (g : ℕ) → GroupByReading s g (group_at s g)

@@ -11,39 +11,35 @@ use Rattle.groups.specs.declared.Display.{Display}
 use Rattle.groups.specs.declared.InHead.{InHead}
 use Rattle.groups.proofs.WalkLaws.{Walked, walked, units_end, units_over, Showing, show_end, show_next}
 use Rattle.groups.proofs.display_from.Goals as goal
-use Rattle.groups.proofs.display_from.Goals.{After-in_group_head, After-next_prefix-end, At-loop-at}
-
--- the offset of the loop
-module _ (l : At-loop-at) where
-  abbrev stream : List ℕ
-  stream = l.args.stream.now
-
-  abbrev from : ℕ
-  from = l.args.from
+use Rattle.groups.proofs.display_from.Goals.{After-in_group_head, After-next_prefix-end}
 
 -- the next prefix
 module _ (k : After-next_prefix-end) where
-  over : k.next_prefix-end.result < k.loop-at.at + 4 → units_from (stream here) k.loop-at.at ≡ []
-  over = units_over (stream here) k.loop-at.at k.loop-at.invariant.here k.loop-at-test.taken k.next_prefix-end.result k.next_prefix-end.ensures
+  abbrev stream : List ℕ
+  stream = k.args.stream.now
 
-  walk : k.loop-at.at + 4 ≤ k.next_prefix-end.result → Walked (stream here) k.loop-at.at k.next_prefix-end.result
-  walk = walked (stream here) k.loop-at.at k.loop-at.invariant.here k.loop-at-test.taken k.next_prefix-end.result k.next_prefix-end.ensures
+  over : k.next_prefix-end.result < k.loop-at.at + 4 → units_from stream k.loop-at.at ≡ []
+  over = units_over stream k.loop-at.at k.loop-at.invariant.here k.loop-at-test.true k.next_prefix-end.result k.next_prefix-end.ensures
+
+  walk : k.loop-at.at + 4 ≤ k.next_prefix-end.result → Walked stream k.loop-at.at k.next_prefix-end.result
+  walk = walked stream k.loop-at.at k.loop-at.invariant.here k.loop-at-test.true k.next_prefix-end.result k.next_prefix-end.ensures
 
 -- the unit that was read
 module _ (u : After-in_group_head) where
-  step : Walked (stream (here found)) u.loop-at.at u.next_prefix-end.result
-  step = walk found u.if-end-body_at.left
+  step : Walked u.args.stream.now u.loop-at.at u.next_prefix-end.result
+  step = walked u.args.stream.now u.loop-at.at u.loop-at.invariant.here u.loop-at-test.true u.next_prefix-end.result u.next_prefix-end.ensures u.if-end-body_at.false
 
   abbrev rest : Display
-  rest = display_in (units_from (stream (here found)) u.next_prefix-end.result)
+  rest = display_in (units_from u.args.stream.now u.next_prefix-end.result)
 
-  answered : {y : InHead} → y ≡ u.in_group_head.result → display_by y rest ≡ display_in (units_from (stream (here found)) (from (here found)))
+  answered : {y : InHead} → y ≡ u.in_group_head.result → display_by y rest ≡ display_in (units_from u.args.stream.now u.args.from)
   answered e =
       ap (λ (y : InHead). display_by y rest) e ∙ u.in_group_head.ensures rest
-      ∙ show_next (stream (here found)) (from (here found)) u.loop-at.at u.next_prefix-end.result u.loop-at.invariant step
+      ∙ show_next u.args.stream.now u.args.from u.loop-at.at u.next_prefix-end.result u.loop-at.invariant step
 
 pub returns-then-end-body_at : goal.returns-then-end-body_at
-returns-then-end-body_at c = let l = here (goal.at.returns-then-end-body_at c).After-next_prefix-end in show_end (stream l) (from l) l.loop.at l.loop.invariant (over (goal.at.returns-then-end-body_at c).After-next_prefix-end c.if-end-body_at.true)
+returns-then-end-body_at c =
+    show_end c.args.stream.now c.args.from c.loop-at.at c.loop-at.invariant (over (goal.at.returns-then-end-body_at c).After-next_prefix-end c.if-end-body_at.true)
 
 pub slice_bounds-body-end : goal.slice_bounds-body-end
 slice_bounds-body-end c = let w = walk (goal.at.slice_bounds-body-end c).After-next_prefix-end c.if-end-body_at.false in omega (arith, w.here.inside)
@@ -58,4 +54,4 @@ pub returns-in-Past : goal.returns-in-Past
 returns-in-Past c = answered (goal.at.returns-in-Past c).After-in_group_head (sym c.in-Past.is)
 
 pub returns : goal.returns
-returns c = show_end (stream (goal.at.returns c).At-loop-at) (from (goal.at.returns c).At-loop-at) c.loop-at.at c.loop-at.invariant (units_end (stream (goal.at.returns c).At-loop-at) c.loop-at.at c.loop-at.invariant.here c.loop-at-test.false)
+returns c = show_end c.args.stream.now c.args.from c.loop-at.at c.loop-at.invariant (units_end c.args.stream.now c.loop-at.at c.loop-at.invariant.here c.loop-at-test.false)

@@ -3,7 +3,7 @@ use mathlib.Core.Path.{refl}
 use mathlib.Core.List.{[], ◌∷◌}
 use borrow.Author.Rules.{rules}
 use Rattle.startcode.specs.declared.Kind.TheVariants as kind
-use Rattle.grammar.proofs.KindLaws.{last_arm}
+use Rattle.grammar.proofs.KindLaws.{other_kind}
 use Rattle.groups.proofs.WalkLaws.{ends_head}
 use Rattle.groups.proofs.head_unit.Goals as goal
 
@@ -14,4 +14,4 @@ pub returns-in-Extension : goal.returns-in-Extension
 returns-in-Extension c = rw c.in-Extension.is c.head_extension.ensures
 
 pub returns-in_default : goal.returns-in_default
-returns-in_default c = let o = last_arm (kind.UserData ∷ kind.Extension ∷ []) c.args.kind c.in_default.in_default-own.keys3 refl in λ rest. let a = c.args in ends_head a.kind a.body.now rest o.0 o.1.0
+returns-in_default c = λ rest. let a = c.args in ends_head a.kind a.body.now rest (other_kind a.kind kind.UserData c.in_default.not-UserData) (other_kind a.kind kind.Extension c.in_default.not-Extension)
