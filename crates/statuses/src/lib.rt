@@ -69,6 +69,7 @@ pub fn refusal(status: u32) -> Answer
 // ── what is wrong with a body ──
 
 // The bit that it carries.
+#[tactic(auto, unfolding(bodies::specs::Answers::fault_bit))]
 fn fault_bit(why: Fault) -> usize
     ensures { result ≡ bit_in (fault_bit why) }
 {

@@ -7,8 +7,8 @@ use Rattle.statuses.proofs.file.Goals as goal
 
 pub returns-in-Filed : goal.returns-in-Filed
 returns-in-Filed c =
-    (arm_answers filed_answer filing_says c.in-Filed.is c.file.ensures.0 c.handed.ensures, c.file.ensures.1.0)
+    record { answer = arm_answers filed_answer filing_says c.in-Filed.is c.file.ensures.answer c.handed.ensures; words = c.file.ensures.words }
 
 pub returns-in-Refused : goal.returns-in-Refused
 returns-in-Refused c =
-    (arm_answers filed_answer filing_says c.in-Refused.is c.file.ensures.0 c.refused_stream.ensures, c.file.ensures.1.0)
+    record { answer = arm_answers filed_answer filing_says c.in-Refused.is c.file.ensures.answer c.refused_stream.ensures; words = c.file.ensures.words }

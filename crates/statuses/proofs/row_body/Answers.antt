@@ -13,6 +13,24 @@ use Rattle.statuses.proofs.row_body.Goals.{Then-row_exists}
 row : (c : Then-row_exists) → There c.args.stream.now c.args.rows.now c.args.i
 row c = there _ _ _ (sym c.row_exists.ensures ∙ c.if-row_exists.true)
 
+pub overflow_mul-i : goal.overflow_mul-i
+overflow_mul-i c = let t = row c in omega arith
+
+pub overflow_add-i : goal.overflow_add-i
+overflow_add-i c = let t = row c in omega arith
+
+pub word-requires : goal.word-requires
+word-requires c = let t = row c in omega arith
+
+pub overflow_mul-i-then-row_exists : goal.overflow_mul-i-then-row_exists
+overflow_mul-i-then-row_exists c = let t = row (goal.at.overflow_mul-i-then-row_exists c).Then-row_exists in omega arith
+
+pub overflow_add-i-then-row_exists : goal.overflow_add-i-then-row_exists
+overflow_add-i-then-row_exists c = let t = row (goal.at.overflow_add-i-then-row_exists c).Then-row_exists in omega arith
+
+pub word-requires-then-row_exists : goal.word-requires-then-row_exists
+word-requires-then-row_exists c = let t = row (goal.at.word-requires-then-row_exists c).Then-row_exists in omega arith
+
 pub returns-then-row_exists : goal.returns-then-row_exists
 returns-then-row_exists c =
     let part : ℕ → ℕ → Part = λ offset length. record { offset = offset + 4; length = length } in
