@@ -16,20 +16,24 @@ module _ (k : After-extension) where
 pub returns-in-Display : goal.returns-in-Display
 unfolding extension_says extension_gives answer_of
 returns-in-Display c =
-    arm_hands extension_numbers extension_says c.args.numbers.now c.in-Display.is (read (goal.at.returns-in-Display c).In-Display-1) c.hand_display.ensures
+    let h = arm_hands extension_numbers extension_says c.args.numbers.now c.in-Display.is (read (goal.at.returns-in-Display c).After-extension) c.hand_display.ensures in
+    record { answer = h.0; numbers = h.1 }
 
 pub returns-in-Copyright : goal.returns-in-Copyright
 unfolding extension_says extension_gives answer_of
 returns-in-Copyright c =
-    arm_hands extension_numbers extension_says c.args.numbers.now c.in-Copyright.is (read (goal.at.returns-in-Copyright c).After-extension) c.hand_copyright.ensures
+    let h = arm_hands extension_numbers extension_says c.args.numbers.now c.in-Copyright.is (read (goal.at.returns-in-Copyright c).After-extension) c.hand_copyright.ensures in
+    record { answer = h.0; numbers = h.1 }
 
 pub returns-in-Opaque : goal.returns-in-Opaque
 unfolding extension_says extension_gives answer_of
 returns-in-Opaque c =
-    arm_hands extension_numbers extension_says c.args.numbers.now c.in-Opaque.is (read (goal.at.returns-in-Opaque c).After-extension) c.hand_over.ensures
+    let h = arm_hands extension_numbers extension_says c.args.numbers.now c.in-Opaque.is (read (goal.at.returns-in-Opaque c).After-extension) c.hand_over.ensures in
+    record { answer = h.0; numbers = h.1 }
 
 pub returns-in-Refused : goal.returns-in-Refused
 unfolding extension_says extension_gives answer_of
 returns-in-Refused c =
     let lent = c.args.numbers.now in
-    arm_hands extension_numbers extension_says lent c.in-Refused.is (read (goal.at.returns-in-Refused c).After-extension) (handed_refused _ _ lent c.refused_body.ensures)
+    let h = arm_hands extension_numbers extension_says lent c.in-Refused.is (read (goal.at.returns-in-Refused c).After-extension) (handed_refused _ _ lent c.refused_body.ensures) in
+    record { answer = h.0; numbers = h.1 }

@@ -8,4 +8,5 @@ use Rattle.handover.proofs.frame_rate.Goals as goal
 
 pub returns : goal.returns
 returns c =
-    handed_by c.args.numbers.now (ap (λ x. done (ratio_numbers x)) c.frame_rate.ensures) c.hand_ratio.ensures
+    let h = handed_by c.args.numbers.now (ap (λ x. done (ratio_numbers x)) c.frame_rate.ensures) c.hand_ratio.ensures in
+    record { answer = h.0; numbers = h.1 }

@@ -7,14 +7,17 @@ use Rattle.handover.proofs.group.Goals as goal
 
 pub returns-in-Group : goal.returns-in-Group
 returns-in-Group c =
-    arm_hands group_numbers group_says c.args.numbers.now c.in-Group.is c.group_at.ensures c.hand_group.ensures
+    let h = arm_hands group_numbers group_says c.args.numbers.now c.in-Group.is c.group_at.ensures c.hand_group.ensures in
+    record { answer = h.0; numbers = h.1 }
 
 pub returns-in-NoRow : goal.returns-in-NoRow
 returns-in-NoRow c =
     let lent = c.args.numbers.now in
-    arm_hands group_numbers group_says lent c.in-NoRow.is c.group_at.ensures (handed_refused _ _ lent c.refusal.ensures)
+    let h = arm_hands group_numbers group_says lent c.in-NoRow.is c.group_at.ensures (handed_refused _ _ lent c.refusal.ensures) in
+    record { answer = h.0; numbers = h.1 }
 
 pub returns-in-Refused : goal.returns-in-Refused
 returns-in-Refused c =
     let lent = c.args.numbers.now in
-    arm_hands group_numbers group_says lent c.in-Refused.is c.group_at.ensures (handed_refused _ _ lent c.refused_stream.ensures)
+    let h = arm_hands group_numbers group_says lent c.in-Refused.is c.group_at.ensures (handed_refused _ _ lent c.refused_stream.ensures) in
+    record { answer = h.0; numbers = h.1 }

@@ -24,7 +24,7 @@ returns c =
     let us = a.values.now in
     let vs = a.more.now in
     let n = length us in
-    let first = c.write_over.new.1.0 in
+    let first = c.write_over.new.numbers in
     let e = length-append us vs in
     handed_all (us ++ vs) a.numbers.now
     (omega arith)
