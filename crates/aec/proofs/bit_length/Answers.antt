@@ -1,7 +1,6 @@
 -- The count, or eight bits for each byte where that is fewer.
 use native.Mathlib.Omega.{arith}
 use Rattle.bits.proofs.BitLaws.{length_payload}
-use borrow.Author.Rules.{rules}
 use Rattle.aec.proofs.bit_length.Goals as goal
 
 pub returns-then-count-all : goal.returns-then-count-all

@@ -15,7 +15,6 @@ use Rattle.answers.proofs.OutcomeLaws.{stops, goes, goes_on}
 use Rattle.contexts.proofs.ContextLaws.{context_ranges, updated_is}
 use Rattle.aec.proofs.RangeLaws.{state_ranges}
 use Rattle.aec.proofs.StepLaws.{first_held, step_is}
-use borrow.Author.Rules.{rules}
 use Rattle.aec.proofs.decode.Goals as goal
 use Rattle.aec.proofs.decode.Goals.{After-guard, In-Done, In-Fine}
 

@@ -19,7 +19,6 @@ use Rattle.contexts.proofs.ContextLaws.{context_ranges, updated_is}
 use Rattle.aec.proofs.RangeLaws.{state_ranges}
 use Rattle.aec.proofs.PairLaws.{Predicts, pair_predicts}
 use Rattle.aec.proofs.StepLaws.{first_held, step_is}
-use borrow.Author.Rules.{rules}
 use Rattle.aec.proofs.decode_pair.Goals as goal
 use Rattle.aec.proofs.decode_pair.Goals.{After-guard, In-Done, In-Fine}
 

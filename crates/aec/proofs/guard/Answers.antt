@@ -1,12 +1,10 @@
 -- TOO LONG, then BAD STATE, in the definition's order.
 use mathlib.Core.Path.{◌≡◌, sym, ap, ◌∙◌}
 use mathlib.Core.Bool.{Bool, ◌&&◌, and-false}
-use borrow.Author.Tests.{not-true, not-false}
 use lib.ListN.{length}
 use Rattle.bits.specs.Bits.{payload}
 use Rattle.aec.specs.Bins.{good_state}
 use Rattle.aec.proofs.StepLaws.{first_long, first_bad, first_fine}
-use borrow.Author.Rules.{rules}
 use Rattle.aec.proofs.guard.Goals as goal
 use Rattle.aec.proofs.guard.Goals.{After-good_state}
 

@@ -1,5 +1,4 @@
 -- By whether s is at valueS, or past it.
-use borrow.Author.Rules.{rules}
 use borrow.Author.Tests.{eq-eqb, ne_eqb}
 use Rattle.aec.proofs.StepLaws.{missed}
 use Rattle.aec.proofs.head_of.Goals as goal

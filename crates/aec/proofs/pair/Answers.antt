@@ -2,7 +2,6 @@
 use native.Mathlib.Omega.{arith}
 use Rattle.contexts.proofs.ContextLaws.{ContextRanges, context_ranges}
 use Rattle.aec.proofs.PairLaws.{pair_same, pair_first, pair_second}
-use borrow.Author.Rules.{rules}
 use Rattle.aec.proofs.pair.Goals as goal
 use Rattle.aec.proofs.pair.Goals.{Start}
 

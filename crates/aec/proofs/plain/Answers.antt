@@ -10,7 +10,6 @@ use Rattle.aec.specs.Inside.{checked_says}
 use Rattle.aec.specs.Inside.{tried_says}
 use Rattle.aec.proofs.RangeLaws.{state_ranges}
 use Rattle.aec.proofs.StepLaws.{first_held, step_is}
-use borrow.Author.Rules.{rules}
 use Rattle.aec.proofs.plain.Goals as goal
 use Rattle.aec.proofs.plain.Goals.{In-Fine}
 

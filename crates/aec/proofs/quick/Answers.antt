@@ -1,7 +1,6 @@
 -- Where renormalisation answers, it answers the state after the bin.
 use mathlib.Core.Path.{sym, ◌∙◌}
 use native.Mathlib.Omega.{arith}
-use borrow.Author.Rules.{rules}
 use Rattle.bits.specs.Bits.{payload}
 use Rattle.aec.proofs.RangeLaws.{state_ranges, payload_bound}
 use Rattle.aec.proofs.StepLaws.{bin_miss}

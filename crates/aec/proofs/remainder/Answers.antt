@@ -1,7 +1,6 @@
 -- valueT less t, at once or with the borrowed bit.
 use Prim.Native.Nat.{ℕ, ◌+◌, ◌-◌}
 use mathlib.Core.Path.{◌≡◌, sym, ap, ◌∙◌}
-use mathlib.Core.List.{List}
 use native.Mathlib.Omega.{arith}
 use lib.ListN.{drop}
 use Rattle.answers.specs.Answers.{Outcome, done}
@@ -13,7 +12,6 @@ use Rattle.aec.specs.declared.Split.{Split}
 use Rattle.answers.proofs.OutcomeLaws.{stops, goes}
 use Rattle.aec.proofs.ShiftLaws.{Taken, taken}
 use Rattle.aec.proofs.StepLaws.{missed, remainder_even, remainder_past}
-use borrow.Author.Rules.{rules}
 use Rattle.aec.proofs.remainder.Goals as goal
 use Rattle.aec.proofs.remainder.Goals.{In-Done}
 

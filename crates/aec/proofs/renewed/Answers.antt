@@ -5,7 +5,6 @@ use Rattle.answers.proofs.OutcomeLaws.{stops, goes}
 use Rattle.contexts.proofs.ContextLaws.{updated_is}
 use Rattle.aec.specs.Says.{stepped_says}
 use Rattle.aec.specs.Inside.{updating}
-use borrow.Author.Rules.{rules}
 use Rattle.aec.proofs.renewed.Goals as goal
 
 pub returns-in-Done : goal.returns-in-Done

@@ -6,7 +6,6 @@ use Rattle.contexts.specs.Contexts.{update_of}
 use Rattle.contexts.proofs.ContextLaws.{updated_is}
 use Rattle.aec.specs.Says.{stepped_says}
 use Rattle.aec.specs.Inside.{updating_pair}
-use borrow.Author.Rules.{rules}
 use Rattle.aec.proofs.renewed_pair.Goals as goal
 
 pub returns-in-Done : goal.returns-in-Done

@@ -2,7 +2,6 @@
 use mathlib.Core.Path.{sym, ap, ◌∙◌}
 use Rattle.aec.specs.Inside.{shifted_says}
 use Rattle.answers.proofs.OutcomeLaws.{stops, goes}
-use borrow.Author.Rules.{rules}
 use Rattle.aec.proofs.settle.Goals as goal
 
 pub returns-in-Done : goal.returns-in-Done

@@ -7,7 +7,6 @@ use Rattle.aec.specs.Bins.{split_of, bin_of}
 use Rattle.aec.specs.Inside.{settled_says}
 use Rattle.aec.proofs.RangeLaws.{state_ranges}
 use Rattle.aec.proofs.StepLaws.{bin_hit, bin_miss, bin_stops}
-use borrow.Author.Rules.{rules}
 use Rattle.aec.proofs.slow.Goals as goal
 use Rattle.aec.proofs.slow.Goals.{After-misses}
 

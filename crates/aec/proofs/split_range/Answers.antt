@@ -1,7 +1,6 @@
 -- s, t and R, by whether rT reaches q.
 use native.Mathlib.Omega.{arith}
 use Rattle.aec.proofs.StepLaws.{split_fits, split_over}
-use borrow.Author.Rules.{rules}
 use Rattle.aec.proofs.split_range.Goals as goal
 
 pub returns-then-q-x : goal.returns-then-q-x

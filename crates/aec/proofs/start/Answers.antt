@@ -15,7 +15,6 @@ use Rattle.aec.specs.declared.Settled.{Settled}
 use Rattle.aec.specs.declared.State.{State}
 use Rattle.aec.proofs.StepLaws.{limit_passed, limit_kept, nine_bits}
 use Rattle.aec.proofs.GoodLaws.{settle_refused}
-use borrow.Author.Rules.{rules}
 use Rattle.aec.proofs.start.Goals as goal
 use Rattle.aec.proofs.start.Goals.{After-read_bits, After-settle}
 

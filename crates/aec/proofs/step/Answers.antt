@@ -1,7 +1,6 @@
 -- A bin that was predicted, or was not.
 use mathlib.Core.Path.{sym, ◌∙◌}
 use Rattle.aec.proofs.StepLaws.{bin_hit}
-use borrow.Author.Rules.{rules}
 use Rattle.aec.proofs.step.Goals as goal
 
 pub quick-requires : goal.quick-requires

@@ -7,7 +7,6 @@ use Rattle.answers.proofs.OutcomeLaws.{stops, goes}
 use Rattle.aec.specs.Bins.{refused_first}
 use Rattle.aec.specs.Inside.{checked_says}
 use Rattle.aec.proofs.StepLaws.{first_held, step_is}
-use borrow.Author.Rules.{rules}
 use Rattle.aec.proofs.stuffing.Goals as goal
 use Rattle.aec.proofs.stuffing.Goals.{In-Fine}
 

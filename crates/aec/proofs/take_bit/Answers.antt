@@ -7,7 +7,6 @@ use lib.ListN.{length, drop}
 use Rattle.bits.specs.Bits.{payload}
 use Rattle.bits.proofs.BitLaws.{length_payload, all_payload, bit_read, bit_missing, bit_small, bit_inside}
 use Rattle.aec.proofs.ShiftLaws.{double_bit, double_none}
-use borrow.Author.Rules.{rules}
 use Rattle.aec.proofs.take_bit.Goals as goal
 use Rattle.aec.proofs.take_bit.Goals.{In-Is}
 

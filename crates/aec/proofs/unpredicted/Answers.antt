@@ -16,7 +16,6 @@ use Rattle.answers.proofs.OutcomeLaws.{stops, goes_on, stops_next}
 use Rattle.aec.proofs.RangeLaws.{StateRanges, state_ranges}
 use Rattle.aec.proofs.ShiftLaws.{widened}
 use Rattle.aec.proofs.StepLaws.{remainder_within}
-use borrow.Author.Rules.{rules}
 use Rattle.aec.proofs.unpredicted.Goals as goal
 use Rattle.aec.proofs.unpredicted.Goals.{In-Done}
 

@@ -1,16 +1,14 @@
 -- What is left to do is the whole, at each turn.
-use Prim.Native.Nat.{ℕ, ◌-◌, ◌*◌, ◌≤◌, ◌<◌}
+use Prim.Native.Nat.{ℕ}
 use mathlib.Core.Path.{◌≡◌, refl, sym, ap, ◌∙◌}
 use mathlib.Core.List.{List}
-use mathlib.Core.Bool.{Bool}
 use native.Mathlib.Omega.{arith}
 use borrow.Author.Tests.{le-leb, lt-leb}
-use lib.Dec.{leb}
-use lib.ListN.{length, drop}
+use lib.ListN.{drop}
 use Rattle.answers.specs.Answers.{done}
 use Rattle.bits.specs.Bits.{payload}
 use Rattle.bits.proofs.BitLaws.{all_payload}
-use Rattle.aec.specs.Bins.{double_of, shifts, widen_of}
+use Rattle.aec.specs.Bins.{double_of}
 use Rattle.aec.specs.Inside.{doubled_says}
 use Rattle.aec.specs.declared.Shift.{Shift}
 use Rattle.aec.proofs.ShiftLaws.{Taken, taken, loop_on, loop_stops, loop_ends}

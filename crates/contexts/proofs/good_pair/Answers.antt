@@ -2,7 +2,6 @@
 use mathlib.Core.Path.{sym, ap, ◌∙◌}
 use mathlib.Core.Bool.{◌&&◌}
 use Rattle.contexts.specs.Contexts.{good_context}
-use borrow.Author.Rules.{rules}
 use Rattle.contexts.proofs.good_pair.Goals as goal
 
 pub returns-then-good_context : goal.returns-then-good_context

@@ -2,7 +2,6 @@
 use native.Mathlib.Omega.{arith}
 use borrow.Author.Tests.{eq-eqb, ne_eqb}
 use Rattle.contexts.specs.Contexts.{next_cycno}
-use borrow.Author.Rules.{rules}
 use Rattle.contexts.proofs.next_cycno.Goals as goal
 
 pub returns-then-cycno-eq0 : goal.returns-then-cycno-eq0

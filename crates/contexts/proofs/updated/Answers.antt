@@ -9,7 +9,6 @@ use Rattle.rates.proofs.RateLaws.{gain_within}
 use Rattle.contexts.specs.Contexts.{good_context, update_of}
 use Rattle.contexts.specs.declared.Context.{Context}
 use Rattle.contexts.proofs.ContextLaws.{ContextRanges, context_ranges, update_hit, update_more, update_fold}
-use borrow.Author.Rules.{rules}
 use Rattle.contexts.proofs.updated.Goals as goal
 use Rattle.contexts.proofs.updated.Goals.{After-rate_by-rate}
 

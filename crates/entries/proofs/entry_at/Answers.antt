@@ -6,7 +6,6 @@ use Rattle.entries.specs.Inside.{read_of}
 use Rattle.entries.specs.declared.Entry.TheVariants.{Lg}
 use Rattle.entries.proofs.WordLaws.{read_is}
 use Rattle.entries.proofs.Main.{entry_given, entry_not_given}
-use borrow.Author.Rules.{rules}
 use Rattle.entries.proofs.entry_at.Goals as goal
 
 pub returns-then-index-gt1023 : goal.returns-then-index-gt1023

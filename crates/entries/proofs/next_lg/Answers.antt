@@ -3,7 +3,6 @@ use mathlib.Core.Path.{ap, ◌∙◌}
 use native.Mathlib.Omega.{arith}
 use Rattle.entries.specs.Inside.{read_of}
 use Rattle.entries.proofs.WordLaws.{read_is}
-use borrow.Author.Rules.{rules}
 use Rattle.entries.proofs.next_lg.Goals as goal
 
 pub returns : goal.returns

@@ -2,7 +2,6 @@
 use Prim.Native.Nat.{◌*◌, ◌/◌, ◌%◌, ◌^◌}
 use mathlib.Core.Path.{ap, ◌∙◌}
 use Rattle.entries.specs.Inside.{pick_of}
-use borrow.Author.Rules.{rules}
 use Rattle.entries.proofs.read.Goals as goal
 
 pub returns : goal.returns

@@ -1,7 +1,6 @@
 -- The bin with what follows it, or what was asked with.
 use Prim.Native.Nat.{ℕ}
 use mathlib.Core.Path.{refl}
-use borrow.Author.Rules.{rules}
 use Rattle.aec.specs.Says.{decoded_says}
 use Rattle.marked.specs.declared.Bin.{Bin}
 use Rattle.marked.specs.Payloads.{no_bin, bin_answer}

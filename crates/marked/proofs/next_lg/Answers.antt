@@ -5,7 +5,6 @@ use native.Mathlib.Omega.{arith}
 use borrow.Author.Tests.{ne_eqb}
 use Rattle.entries.specs.declared.Entry.{Entry}
 use Rattle.marked.specs.Payloads.{entry_number, entry_answer}
-use borrow.Author.Rules.{rules}
 use Rattle.marked.proofs.next_lg.Goals as goal
 
 -- the number of an entry that is the answer's for a w

@@ -1,7 +1,6 @@
 -- The bin with what follows it, or the state that was lent.
 use Prim.Native.Nat.{ℕ}
 use mathlib.Core.Path.{sym, ap, ◌∙◌}
-use borrow.Author.Rules.{rules}
 use Rattle.aec.specs.Says.{stepped_says}
 use Rattle.marked.specs.declared.PlainBin.{PlainBin}
 use Rattle.marked.specs.Payloads.{no_bin, plain_answer}

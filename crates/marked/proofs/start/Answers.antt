@@ -1,6 +1,5 @@
 -- The state after the start, or the state that was asked with.
 use mathlib.Core.Path.{refl}
-use borrow.Author.Rules.{rules}
 use Rattle.aec.specs.Says.{started_says}
 use Rattle.marked.specs.Payloads.{begun_answer}
 use Rattle.answers.proofs.OutcomeLaws.{arm_answers}

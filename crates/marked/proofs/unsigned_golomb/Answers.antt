@@ -1,6 +1,5 @@
 -- The number and the place after it, or the refusal.
 use mathlib.Core.Path.{refl}
-use borrow.Author.Rules.{rules}
 use Rattle.payload.specs.Golomb.{golomb_says}
 use Rattle.marked.specs.Payloads.{number_answer}
 use Rattle.answers.proofs.OutcomeLaws.{arm_answers}

@@ -1,10 +1,8 @@
 -- What is pushed and what is still to come make the whole.
 use Prim.Native.Nat.{◌-◌}
-use native.Mathlib.Omega.{arith}
-use borrow.Author.Rules.{rules}
-use lib.ListN.{length, get_or}
+use lib.ListN.{length}
 use Rattle.payload.specs.Inside.{waits}
-use Rattle.payload.proofs.EscapeLaws.{Copying, copying_start, copying_step, copying_end, width_is}
+use Rattle.payload.proofs.EscapeLaws.{Copying}
 use Rattle.payload.proofs.copy_bits.Given as goal
 
 abbrev pub invariant-loop-i : goal.invariant-loop-i

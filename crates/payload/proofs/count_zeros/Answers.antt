@@ -1,15 +1,14 @@
 -- The zeros that are left to count, after those that are counted, make the whole.
-use Prim.Native.Nat.{ℕ, ◌+◌, ◌-◌, ◌≤◌, ◌<◌}
-use mathlib.Core.Path.{◌≡◌, refl, sym, ap, ◌∙◌}
+use Prim.Native.Nat.{ℕ, ◌+◌}
+use mathlib.Core.Path.{◌≡◌, refl, sym, ◌∙◌}
 use mathlib.Core.List.{List, ◌∷◌}
 use native.Mathlib.Omega.{arith}
 use borrow.Author.Rules.{rules}
 use borrow.Author.Tests.{eq-eqb}
-use lib.ListN.{length, drop}
+use lib.ListN.{drop}
 use Rattle.bits.specs.Bits.{payload}
 use Rattle.bits.proofs.BitLaws.{length_payload, bit_read, bit_missing, bit_inside}
-use Rattle.payload.specs.Reader.{zeros_on}
-use Rattle.payload.proofs.GolombLaws.{zeros_from, zeros_more, zeros_one, zeros_out}
+use Rattle.payload.proofs.GolombLaws.{zeros_more, zeros_one, zeros_out}
 use Rattle.payload.proofs.count_zeros.Goals as goal
 use Rattle.payload.proofs.count_zeros.Goals.{In-Is}
 

@@ -1,15 +1,10 @@
 -- The zeros that are left to count, after those that are counted, make the whole.
-use Prim.Native.Nat.{ℕ, ◌+◌, ◌-◌, ◌≤◌, ◌<◌}
-use mathlib.Core.Path.{◌≡◌, refl, sym, ap, ◌∙◌}
-use mathlib.Core.List.{List, ◌∷◌}
-use native.Mathlib.Omega.{arith}
-use borrow.Author.Rules.{rules}
-use borrow.Author.Tests.{eq-eqb}
-use lib.ListN.{length, drop}
+use Prim.Native.Nat.{◌-◌, ◌≤◌}
+use mathlib.Core.Path.{◌≡◌}
+use lib.ListN.{drop}
 use Rattle.bits.specs.Bits.{payload}
-use Rattle.bits.proofs.BitLaws.{length_payload, bit_read, bit_missing, bit_inside}
 use Rattle.payload.specs.Reader.{zeros_on}
-use Rattle.payload.proofs.GolombLaws.{zeros_from, zeros_more, zeros_one, zeros_out}
+use Rattle.payload.proofs.GolombLaws.{zeros_from}
 use Rattle.payload.proofs.count_zeros.Given as goal
 
 abbrev pub invariant-loop-z : goal.invariant-loop-z

@@ -1,12 +1,5 @@
 -- No bit is left, or one byte more is filled and written.
-use Prim.Native.Nat.{ℕ, suc, ◌+◌, ◌-◌, ◌*◌, ◌^◌, ◌≤◌, ◌<◌}
-use mathlib.Core.Path.{◌≡◌, sym, ap, ◌∙◌}
-use mathlib.Core.List.{List, [], ◌∷◌, ◌++◌}
 use native.Mathlib.Omega.{arith}
-use borrow.Author.Rules.{rules}
-use lib.ListN.{length, take, drop, take-append-drop}
-use lib.Seq.{set_split}
-use Rattle.bits.proofs.PackingLaws.{pack_none, pack_last}
 use Rattle.payload.proofs.EscapeLaws.{last_lt, last_is, filled_none, filled_last}
 use Rattle.payload.proofs.fill_last.Goals as goal
 

@@ -1,9 +1,8 @@
 -- Each turn picks a bit of the byte and joins it to those before.
-use Prim.Native.Nat.{◌+◌, ◌-◌, ◌*◌, ◌%◌, ◌≤◌, ◌<◌}
+use Prim.Native.Nat.{◌+◌, ◌*◌, ◌%◌, ◌<◌}
 use mathlib.Core.Path.{◌≡◌}
 use native.Mathlib.Omega.{arith}
 use borrow.Author.Rules.{rules}
-use Rattle.payload.specs.Inside.{Joined}
 use Rattle.payload.proofs.JoinedLaws.{joined_none, joined_small, joined_more}
 use Rattle.payload.proofs.joined.Goals as goal
 use Rattle.payload.proofs.joined.Goals.{After-bit_of}

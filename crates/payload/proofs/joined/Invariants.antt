@@ -1,10 +1,6 @@
 -- Each turn picks a bit of the byte and joins it to those before.
-use Prim.Native.Nat.{◌+◌, ◌-◌, ◌*◌, ◌%◌, ◌≤◌, ◌<◌}
-use mathlib.Core.Path.{◌≡◌}
-use native.Mathlib.Omega.{arith}
-use borrow.Author.Rules.{rules}
+use Prim.Native.Nat.{◌-◌, ◌≤◌}
 use Rattle.payload.specs.Inside.{Joined}
-use Rattle.payload.proofs.JoinedLaws.{joined_none, joined_small, joined_more}
 use Rattle.payload.proofs.joined.Given as goal
 
 abbrev pub invariant-loop-j : goal.invariant-loop-j

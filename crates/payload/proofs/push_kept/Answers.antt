@@ -1,7 +1,6 @@
 -- Each branch pushes as many bits as the width says.
 use mathlib.Core.Path.{◌≡◌}
 use native.Mathlib.Omega.{arith}
-use borrow.Author.Rules.{rules}
 use Rattle.payload.proofs.push_kept.Goals as goal
 use Rattle.payload.proofs.push_kept.Goals.{Else-width-eq8}
 

@@ -1,7 +1,6 @@
 -- The bits wait where none did; else a byte is written.
 use Prim.Native.Nat.{◌-◌}
 use native.Mathlib.Omega.{arith}
-use borrow.Author.Rules.{rules}
 use Rattle.payload.proofs.EscapeLaws.{pushed_out, pushed_in}
 use Rattle.payload.proofs.push_six.Goals as goal
 

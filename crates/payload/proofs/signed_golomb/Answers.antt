@@ -1,14 +1,11 @@
 -- The unsigned answer, with the number that it stands for.
-use Prim.Native.Nat.{ℕ}
 use mathlib.Core.Path.{◌≡◌, sym, ap, ◌∙◌}
-use native.Mathlib.Omega.{arith}
-use borrow.Author.Rules.{rules}
 use lib.IntN.{ℤ}
 use mir.Facts.{to_z-of_z}
 use mir.Syntax.{w32}
 use Rattle.answers.specs.Answers.{Outcome, done, map_done}
 use Rattle.payload.specs.Golomb.{Numbered, golomb_says, with_sign}
-use Rattle.payload.specs.Reader.{golomb, signed_golomb}
+use Rattle.payload.specs.Reader.{signed_golomb}
 use Rattle.payload.proofs.GolombLaws.{golomb_bound}
 use Rattle.payload.proofs.signed_golomb.Goals as goal
 use Rattle.payload.proofs.signed_golomb.Goals.{After-unsigned_golomb}

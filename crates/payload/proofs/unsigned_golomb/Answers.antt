@@ -1,9 +1,8 @@
 -- The answer goes by the zeros, and then by the one read of the bits after the 1.
-use Prim.Native.Nat.{ℕ, ◌+◌, ◌-◌, ◌*◌, ◌%◌, ◌^◌, ◌≤◌, ◌<◌}
-use mathlib.Core.Path.{◌≡◌, refl, sym, ap, ◌∙◌}
+use Prim.Native.Nat.{ℕ, ◌+◌, ◌-◌, ◌*◌, ◌%◌, ◌^◌, ◌≤◌}
+use mathlib.Core.Path.{◌≡◌, sym, ap, ◌∙◌}
 use native.Mathlib.Omega.{arith}
 use native.Mathlib.Nat.{one-mul}
-use borrow.Author.Rules.{rules}
 use lib.Pow.{shl_exact, pow_pos}
 use lib.ListN.{length}
 use Rattle.answers.specs.Answers.{Outcome, done}

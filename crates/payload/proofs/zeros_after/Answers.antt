@@ -1,5 +1,4 @@
 -- Each return is one case of the test.
-use borrow.Author.Rules.{rules}
 use borrow.Author.Tests.{eq-eqb, ne_eqb}
 use Rattle.payload.proofs.zeros_after.Goals as goal
 

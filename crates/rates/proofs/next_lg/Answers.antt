@@ -4,7 +4,6 @@ use mathlib.Core.Path.{ap}
 use native.Mathlib.Omega.{arith}
 use Rattle.rates.specs.Rates.{next_lg}
 use Rattle.rates.proofs.RateLaws.{width_within, loss}
-use borrow.Author.Rules.{rules}
 use Rattle.rates.proofs.next_lg.Goals as goal
 use Rattle.rates.proofs.next_lg.Goals.{After-width-w}
 

@@ -1,6 +1,5 @@
 -- There are at most 32 leading zeros.
 use native.Mathlib.Omega.{arith}
-use borrow.Author.Rules.{rules}
 use lib.Count.{leading_le}
 use mathlib.Core.Path.{refl}
 use Rattle.renorm.proofs.doublings.Goals as goal

@@ -1,5 +1,4 @@
 -- By whether a bit is borrowed.
-use borrow.Author.Rules.{rules}
 use Rattle.renorm.proofs.left_of.Goals as goal
 
 pub returns-then-borrows : goal.returns-then-borrows

@@ -1,6 +1,5 @@
 -- There are at most 64 leading zeros.
 use native.Mathlib.Omega.{arith}
-use borrow.Author.Rules.{rules}
 use lib.Count.{leading_le}
 use Rattle.renorm.proofs.needed.Goals as goal
 

@@ -4,7 +4,6 @@ use mathlib.Core.Path.{◌≡◌, refl, sym, ap, ◌∙◌}
 use mathlib.Core.Bool.{Bool}
 use native.Mathlib.Omega.{arith}
 use native.Mathlib.Nat.{mul-le-mul_right}
-use borrow.Author.Rules.{rules}
 use lib.Pow.{pow_mono, shl_exact}
 use Rattle.bits.specs.Bits.{payload}
 use Rattle.bits.specs.Reader.{word_at}

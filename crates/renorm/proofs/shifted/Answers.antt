@@ -1,7 +1,6 @@
 -- The bits at hand are too few, or both loops are shifts.
 use Prim.Native.Nat.{ℕ, ◌-◌, ◌*◌, ◌%◌, ◌^◌, ◌<◌}
 use mathlib.Core.Path.{◌≡◌, sym, subst}
-use borrow.Author.Rules.{rules}
 use lib.Pow.{mod-mod-pow}
 use Rattle.renorm.specs.Reader.{needed_of}
 use Rattle.renorm.proofs.ShiftedLaws.{short_at, done_at}
