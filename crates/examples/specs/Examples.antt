@@ -2,12 +2,11 @@
 use Rattle.std.specs.Prelude.{ℕ, zero, suc, ◌≡◌, List, [], ◌∷◌, ◌++◌, ℤ, pos, neg_ℤ, length}
 use Rattle.answers.specs.Answers.{Carried, at_offset, at_bit, Outcome, done, refused, map_done, NO_CODE, CUT, STUFFING, UNENDED, FULL, VALUE_SLICE_ROW, and_then}
 use Rattle.answers.specs.Missing.{payload_out}
-use Rattle.bits.specs.Lists.{All}
 use Rattle.startcode.specs.declared.Kind.{Kind}
 use Rattle.bodies.specs.Reader.{header_of}
 use Rattle.bodies.specs.declared.SequenceHeader.{SequenceHeader}
 use Rattle.macroblocks.specs.Macroblocks.{macroblock_columns, macroblock_rows}
-use Rattle.grammar.specs.Rows.{Row, words}
+use Rattle.grammar.specs.Rows.{words}
 use Rattle.grammar.specs.Reader.{filing_into}
 use Rattle.payload.specs.Escape.{removal, output_after}
 use Rattle.payload.specs.Reader.{golomb, signed_golomb}

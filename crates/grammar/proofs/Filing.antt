@@ -16,7 +16,7 @@ use Rattle.bodies.specs.declared.Scope.{Scope}
 use Rattle.bodies.specs.declared.Scope.TheVariants as scope
 use Rattle.startcode.specs.Prefix.{begins}
 use Rattle.grammar.specs.Lists.{concat_map}
-use Rattle.grammar.specs.Grammar.{StreamUnit, bytes, Picture, Group, Reading, picture_units, group_units, units, Reads}
+use Rattle.grammar.specs.Grammar.{StreamUnit, bytes, Group, Reading, picture_units, group_units, units, Reads}
 use Rattle.grammar.specs.Rows.{Row, Placed, placed, placed_picture, placed_group, placed_units, rows_from, rows}
 use Rattle.grammar.specs.Reader.{cut, scope_in, final, step, Walk, stop_at, add_unit, continue, walk_from, walk_of_any, walk, said, filing}
 use Rattle.grammar.specs.declared.Step.{Step}

@@ -15,13 +15,12 @@ use Rattle.startcode.specs.Prefix.{begins}
 use Rattle.startcode.specs.declared.Kind.{Kind}
 use Rattle.startcode.specs.declared.Kind.TheVariants as kind
 use Rattle.bodies.specs.Extensions.{numbered, HasNumber}
-use Rattle.macroblocks.specs.Macroblocks.{slices_tested}
 use Rattle.grammar.specs.Grammar.{StreamUnit, IsKind, Alone, Extension, slice_rule}
 use Rattle.grammar.specs.Reader.{cut, same_kind, choose, table, step, final}
 use Rattle.grammar.specs.declared.Step.{Step}
 use Rattle.grammar.specs.declared.Step.TheVariants.{Go as go}
 use Rattle.grammar.specs.Rows.{Placed}
-use Rattle.grammar.specs.Refusals.{IsSentence, BeginsSentence, kinds_of, BeginsShape, InPlace}
+use Rattle.grammar.specs.Refusals.{IsSentence, kinds_of, InPlace}
 use Rattle.grammar.specs.declared.SliceRule.{SliceRule}
 use Rattle.grammar.specs.declared.State.{State}
 use Rattle.grammar.specs.declared.State.TheVariants.{Start, Head, Picture as InPicture, Slices, Ended, Closed}

@@ -1,13 +1,13 @@
 -- A body's verdict, in its parts.
 use Prim.Native.Nat.{ℕ, ◌*◌, ◌≤◌, ◌<◌}
-use mathlib.Core.Path.{◌≡◌, refl, sym, ap, ◌∙◌}
+use mathlib.Core.Path.{◌≡◌, refl}
 use mathlib.Core.List.{List}
 use mathlib.Core.Bool.{Bool, not}
 use borrow.Author.Tests.{lt-ltb, le-ltb}
 use lib.ListN.{length, drop}
 use Rattle.bits.specs.Bits.{bits_of}
 use Rattle.layout.specs.Layouts.{fields, bit_count, least_bytes}
-use Rattle.layout.specs.Reader.{Result, ◌>>◌, refuse_if, both, values_of, judge, cross, judged, stuffing, ended, reading}
+use Rattle.layout.specs.Reader.{Result, ◌>>◌, refuse_if, both, values_of, judged, stuffing, ended, reading}
 use Rattle.answers.specs.Results.{good, bad, ◌>>=◌}
 use Rattle.layout.specs.Answers.{verdict_says}
 use Rattle.layout.specs.declared.Layout.{Layout}

@@ -2,11 +2,11 @@
 use Prim.Native.Nat.{ℕ, ◌≤◌}
 use mathlib.Core.Path.{◌≡◌, refl, sym, ap, ◌∙◌, subst}
 use mathlib.Core.List.{List}
-use lib.ListN.{length, drop}
-use Rattle.answers.specs.Results.{good, bad, ◌>>=◌}
+use lib.ListN.{length}
+use Rattle.answers.specs.Results.{good, ◌>>=◌}
 use Rattle.answers.proofs.ResultLaws.{good_same}
 use Rattle.bits.specs.Bits.{bits_of}
-use Rattle.layout.specs.Layouts.{fields, bit_count, least_bytes}
+use Rattle.layout.specs.Layouts.{fields, least_bytes}
 use Rattle.layout.specs.Reader.{Result, ◌>>◌, both, judge, cross, judged, ended, reading}
 use Rattle.layout.specs.Inside.{taken_from}
 use Rattle.layout.specs.declared.Layout.{Layout}

@@ -1,6 +1,6 @@
 -- Document 01, "Refusal numbers": what keeps a body from obeying its layout. SHORT comes first, then the fields in bit order,
 -- then the rules across fields, then the end. No field is read here: its value is the one whose bits stand in the body.
-use Rattle.std.specs.Prelude.{ℕ, ◌+◌, ◌≤◌, ◌<◌, ◌≡◌, ◌≢◌, List, [], ◌∷◌, ◌++◌, length, replicate}
+use Rattle.std.specs.Prelude.{ℕ, ◌+◌, ◌≤◌, ◌<◌, ◌≡◌, ◌≢◌, List, ◌∷◌, ◌++◌, length, replicate}
 use Rattle.std.proofs.Math.Option.{some}
 use Rattle.bits.specs.Bits.{bits_of}
 use Rattle.layout.specs.Layouts.{rule_of, Wrong, fields, bit_count, Begins, least_bytes}

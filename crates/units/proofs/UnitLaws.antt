@@ -1,7 +1,7 @@
 -- The laws of the unit at an offset: what it is, and what it leaves of the walk.
-use Prim.Native.Nat.{ℕ, suc, ◌≤◌, ◌<◌, ◌+◌, ◌-◌}
+use Prim.Native.Nat.{ℕ, ◌≤◌, ◌<◌, ◌+◌, ◌-◌}
 use mathlib.Core.Path.{◌≡◌, refl, sym, ◌∙◌, ap, subst}
-use mathlib.Core.List.{List, [], ◌∷◌}
+use mathlib.Core.List.{List}
 use mathlib.Core.Bool.{Bool, true, false, cond}
 use lib.Dec.{eqb}
 use lib.ListN
@@ -12,9 +12,8 @@ use Rattle.answers.specs.Results.{good}
 use Rattle.answers.proofs.ResultLaws.{not_good}
 use Rattle.bits.proofs.TestLaws.{by_test}
 use Rattle.startcode.specs.Prefix.{begins, next_prefix}
-use Rattle.bodies.specs.declared.Scope.{Scope}
 use Rattle.grammar.specs.Grammar.{StreamUnit, bytes}
-use Rattle.grammar.specs.Rows.{Placed, placed, row_length, is_whole, kept, trimmed}
+use Rattle.grammar.specs.Rows.{Placed, placed, row_length}
 use Rattle.grammar.specs.Reader.{cut, step, scope_in, Walk, stop_at, continue, add_unit, walk_from}
 use Rattle.grammar.specs.declared.State.{State}
 use Rattle.grammar.specs.declared.Reason.TheVariants as reason

@@ -1,12 +1,8 @@
 -- What is read so far writes the bits of the bytes passed.
-use Prim.Native.Nat.{ℕ, ◌+◌, ◌-◌, ◌*◌, ◌^◌, ◌≤◌, ◌<◌}
+use Prim.Native.Nat.{◌-◌, ◌*◌, ◌^◌, ◌≤◌, ◌<◌}
 use mathlib.Core.Path.{◌≡◌}
-use native.Mathlib.Omega.{arith}
-use borrow.Author.Rules.{rules}
 use lib.ListN.{take, drop}
-use lib.Pow.{pow_mono}
 use Rattle.bits.specs.Bits.{bits_in, bits_of}
-use Rattle.bits.proofs.ChunkLaws.{no_bits, byte_more, byte_fits}
 use Rattle.bits.proofs.number.Given as goal
 
 abbrev pub invariant-loop-at : goal.invariant-loop-at

@@ -1,11 +1,8 @@
 -- A bit is there exactly where the count and the bytes reach it.
 use Prim.Native.Nat.{ℕ, ◌-◌, ◌/◌, ◌%◌, ◌^◌}
-use mathlib.Core.Path.{◌≡◌, sym, ap, ◌∙◌}
+use mathlib.Core.Path.{ap, ◌∙◌}
 use native.Mathlib.Omega.{arith}
-use borrow.Author.Rules.{rules}
 use lib.Bits.{and_mask}
-use lib.ListN.{length}
-use Rattle.bits.specs.Bits.{payload}
 use Rattle.bits.specs.declared.Bit.TheVariants.{Is}
 use Rattle.bits.proofs.BitLaws.{payload_end, payload_bit, bit_here, bit_none}
 use Rattle.bits.proofs.read_bit.Goals as goal

@@ -1,15 +1,9 @@
 -- A number is read exactly where as many bits are left as it has.
-use Prim.Native.Nat.{ℕ, ◌+◌, ◌-◌, ◌*◌, ◌/◌, ◌%◌, ◌^◌, ◌≤◌, ◌<◌}
-use mathlib.Core.Path.{◌≡◌, sym, ap, ◌∙◌}
-use mathlib.Core.List.{List}
+use Prim.Native.Nat.{◌+◌, ◌-◌, ◌*◌, ◌≤◌}
+use mathlib.Core.Path.{sym, ap, ◌∙◌}
 use native.Mathlib.Omega.{arith}
-use native.Mathlib.Nat.{mod-lt}
-use borrow.Author.Rules.{rules}
-use lib.ListN.{length, take, drop}
-use lib.Pow.{pow_pos}
-use lib.Seq.{drop-drop}
-use Rattle.answers.specs.Results.{good}
-use Rattle.bits.specs.Bits.{bits_in, bits_of, payload, read_on, read_at, read_says}
+use lib.ListN.{length}
+use Rattle.bits.specs.Bits.{payload, read_on, read_at, read_says}
 use Rattle.bits.specs.declared.Read.TheVariants.{Value}
 use Rattle.bits.proofs.BitLaws.{length_payload, within_wide, within_is}
 use Rattle.bits.proofs.ReadLaws.{missing_exactly}

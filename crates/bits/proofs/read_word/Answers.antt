@@ -1,13 +1,11 @@
 -- The four bytes are there where 32 bits are left.
-use Prim.Native.Nat.{ℕ, ◌+◌, ◌-◌, ◌*◌, ◌/◌, ◌%◌, ◌^◌, ◌≤◌, ◌<◌}
+use Prim.Native.Nat.{ℕ, ◌+◌, ◌-◌, ◌*◌, ◌/◌, ◌%◌, ◌^◌, ◌≤◌}
 use mathlib.Core.Path.{◌≡◌, sym, ap, ◌∙◌}
 use mathlib.Core.List.{List}
 use native.Mathlib.Omega.{arith}
-use borrow.Author.Rules.{rules}
 use lib.ListN.{length, take, drop}
 use Rattle.answers.specs.Results.{good}
 use Rattle.bits.specs.Bits.{bits_in, bits_of, payload, read_at}
-use Rattle.bits.specs.declared.Word.{Word}
 use Rattle.bits.specs.declared.Word.TheVariants.{Bits}
 use Rattle.bits.proofs.BitLaws.{length_payload}
 use Rattle.bits.proofs.ChunkLaws.{bytes_read}

@@ -8,7 +8,6 @@ use Rattle.answers.specs.Results.{good}
 use Rattle.bodies.specs.Answers.{extension_gives, opaque}
 use Rattle.bodies.specs.Reader.{display_of, copyright_of, not_copyright, by_number}
 use Rattle.bodies.specs.declared.Scope.{Scope}
-use borrow.Author.Rules.{rules}
 use Rattle.bodies.proofs.by_number.Goals as goal
 
 not_four : (scope : Scope) (body : List ℕ) (number : ℕ) → (number ≡ 4 → ⊥) → by_number scope body number ≡ not_copyright scope body number

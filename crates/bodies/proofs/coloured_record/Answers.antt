@@ -2,7 +2,6 @@
 use mathlib.Core.Path.{ap}
 use Rattle.bodies.specs.Records.{coloured_record}
 use Rattle.layout.proofs.LayoutLaws.{spelled}
-use borrow.Author.Rules.{rules}
 use Rattle.bodies.proofs.coloured_record.Goals as goal
 
 pub returns : goal.returns

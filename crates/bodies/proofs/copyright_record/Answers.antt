@@ -8,7 +8,6 @@ use Rattle.layout.specs.Layouts.{copyright_fields}
 use Rattle.bodies.specs.Records.{copyright_record}
 use Rattle.bodies.specs.declared.CopyrightExtension.{CopyrightExtension}
 use Rattle.layout.proofs.LayoutLaws.{fits_at, spelled}
-use borrow.Author.Rules.{rules}
 use Rattle.bodies.proofs.copyright_record.Goals as goal
 use Rattle.bodies.proofs.copyright_record.Goals.{After-shared_slice_known-7-1}
 

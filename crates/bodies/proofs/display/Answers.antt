@@ -10,7 +10,6 @@ use Rattle.answers.specs.Results.{◌>>=◌}
 use Rattle.bodies.specs.Answers.{extension_gives}
 use Rattle.bodies.specs.Reader.{coloured_of, plain_of, read_bit, display_of}
 use Rattle.bodies.proofs.AnswerLaws.{bit_within, display_short_lem, display_long}
-use borrow.Author.Rules.{rules}
 use Rattle.bodies.proofs.display.Goals as goal
 use Rattle.bodies.proofs.display.Goals.{After-read_bit}
 

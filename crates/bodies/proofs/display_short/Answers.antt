@@ -9,7 +9,6 @@ use Rattle.bits.specs.Bits.{bits_of, bit_at}
 use Rattle.layout.specs.Layouts.{least_bytes}
 use Rattle.bodies.specs.Reader.{is_one, display_short}
 use Rattle.bodies.proofs.AnswerLaws.{bit_within, short_by}
-use borrow.Author.Rules.{rules}
 use Rattle.bodies.proofs.display_short.Goals as goal
 use Rattle.bodies.proofs.display_short.Goals.{After-read_bit}
 

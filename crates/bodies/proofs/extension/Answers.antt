@@ -8,7 +8,6 @@ use Rattle.bodies.specs.Reader.{number_of, by_number, extension_result, extensio
 use Rattle.answers.specs.Results as results
 use Rattle.answers.specs.Results.{good, bad, ◌>>=◌}
 use Rattle.bodies.specs.Answers.{answer_of, extension_gives, extension_says}
-use borrow.Author.Rules.{rules}
 use Rattle.bodies.proofs.extension.Goals as goal
 use Rattle.bodies.proofs.extension.Goals.{After-number_of}
 

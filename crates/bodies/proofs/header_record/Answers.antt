@@ -4,7 +4,6 @@ use native.Mathlib.Omega.{arith}
 use Rattle.layout.specs.Layouts.{header_fields}
 use Rattle.bodies.specs.Records.{header_record}
 use Rattle.layout.proofs.LayoutLaws.{fits_at, spelled}
-use borrow.Author.Rules.{rules}
 use Rattle.bodies.proofs.header_record.Goals as goal
 
 pub overflow_mul-result : goal.overflow_mul-result

@@ -8,7 +8,6 @@ use Rattle.bits.proofs.BitLaws.{says_same, says_wide}
 use Rattle.bodies.specs.Extensions.{numbered}
 use Rattle.bodies.specs.Reader.{number_of}
 use Rattle.bodies.proofs.NumberLaws.{is_read, numbered_read}
-use borrow.Author.Rules.{rules}
 use Rattle.bodies.proofs.is_display.Goals as goal
 use Rattle.bodies.proofs.is_display.Goals.{After-number_of}
 

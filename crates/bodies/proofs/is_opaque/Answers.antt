@@ -13,7 +13,6 @@ use Rattle.bodies.specs.declared.Scope.{Scope}
 use Rattle.bodies.specs.declared.Scope.TheVariants.{Head}
 use Rattle.bodies.proofs.NumberLaws.{opaque_read, opaque_read_lem}
 use Rattle.bits.specs.declared.Read.TheVariants.{Value}
-use borrow.Author.Rules.{rules}
 use Rattle.bodies.proofs.is_opaque.Goals as goal
 use Rattle.bodies.proofs.is_opaque.Goals.{After-number_of}
 

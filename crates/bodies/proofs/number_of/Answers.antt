@@ -7,7 +7,6 @@ use lib.ListN.{length, get_or}
 use Rattle.bits.specs.Bits.{bits_in, bits_of, read_on, read_at, read_says}
 use Rattle.answers.specs.Results.{good, bad}
 use Rattle.bodies.specs.Reader.{number_of}
-use borrow.Author.Rules.{rules}
 use Rattle.bodies.proofs.number_of.Goals as goal
 
 none_there : (body : List ℕ) → length body ≡ 0 → number_of body ≡ bad 4

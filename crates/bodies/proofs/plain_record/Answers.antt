@@ -2,7 +2,6 @@
 use mathlib.Core.Path.{ap}
 use Rattle.bodies.specs.Records.{plain_record}
 use Rattle.layout.proofs.LayoutLaws.{spelled}
-use borrow.Author.Rules.{rules}
 use Rattle.bodies.proofs.plain_record.Goals as goal
 
 pub returns : goal.returns

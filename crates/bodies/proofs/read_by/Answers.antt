@@ -9,9 +9,7 @@ use Rattle.layout.specs.Obeys.{Fits}
 use Rattle.layout.specs.declared.Layout.{Layout}
 use Rattle.bodies.specs.Answers.{extension_gives}
 use Rattle.bodies.specs.Inside.{layout_by, record_by}
-use Rattle.bodies.specs.declared.Recorded.{Recorded}
 use Rattle.bodies.proofs.AnswerLaws.{held_length, result_bad, result_made, result_fits}
-use borrow.Author.Rules.{rules}
 use Rattle.bodies.proofs.read_by.Goals as goal
 use Rattle.bodies.proofs.read_by.Goals.{In-Fine}
 

@@ -1,20 +1,16 @@
 -- The values that fit their fields make the record of their layout.
 use mathlib.Core.Path.{◌≡◌, sym, ap, ◌∙◌, subst}
-use mathlib.Core.Option.{Option}
 use Prim.Native.Nat.{ℕ}
 use mathlib.Core.List.{List}
 use Rattle.answers.specs.Results.{good, ◌>>=◌}
 use Rattle.layout.specs.Layouts.{fields}
 use Rattle.layout.specs.Obeys.{Fits}
-use Rattle.layout.specs.Reader.{Result}
-use Rattle.layout.specs.declared.Layout.{Layout}
 use Rattle.layout.proofs.LayoutLaws.{fits_length}
-use Rattle.bodies.specs.Answers.{Extension, extension_gives, display, copyright}
+use Rattle.bodies.specs.Answers.{extension_gives, display, copyright}
 use Rattle.bodies.specs.Reader.{recorded}
 use Rattle.bodies.specs.Inside.{layout_by, record_by}
 use Rattle.bodies.specs.declared.Recorded.{Recorded}
 use Rattle.bodies.specs.declared.Recorded.TheVariants.{Plain, Coloured, Copyright}
-use borrow.Author.Rules.{rules}
 use Rattle.bodies.proofs.record_by.Goals as goal
 
 -- the values fit the layout of what they make

@@ -1,6 +1,5 @@
 -- TOO LONG, and then the first pass.
 use mathlib.Core.Path.{sym, ap, ◌∙◌}
-use borrow.Author.Rules.{rules}
 use lib.ListN.{length}
 use Rattle.grammar.specs.Reader.{said, walk_of_any}
 use Rattle.filing.proofs.Demand.{walk_long, walk_short, said_checked}

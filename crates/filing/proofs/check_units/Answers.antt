@@ -1,13 +1,10 @@
 -- What is counted and what is left make the whole count.
-use Prim.Native.Nat.{ℕ, ◌-◌}
 use mathlib.Core.Path.{◌≡◌, refl, sym, ap, ◌∙◌, subst}
-use mathlib.Core.List.{List}
 use native.Mathlib.Omega.{arith}
-use borrow.Author.Rules.{rules}
 use lib.ListN.{length, length-set}
 use Rattle.units.specs.declared.UnitAnswer.{UnitAnswer}
-use Rattle.units.proofs.UnitLaws.{Advanced, Left, what_is_left}
-use Rattle.filing.proofs.PassLaws.{Checking, checking_start, checking_next, end_good, end_unended, counted, no_code, passed_refused}
+use Rattle.units.proofs.UnitLaws.{Left, what_is_left}
+use Rattle.filing.proofs.PassLaws.{checking_start, checking_next, end_good, end_unended, counted, no_code, passed_refused}
 use Rattle.filing.proofs.check_units.Goals as goal
 use Rattle.filing.proofs.check_units.Goals.{After-unit_at}
 

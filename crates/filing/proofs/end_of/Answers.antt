@@ -1,7 +1,6 @@
 -- The span that was kept leads to the end, or the end is found.
 use Prim.Native.Nat.{ℕ, ◌+◌}
 use mathlib.Core.Path.{◌∙◌, ap}
-use borrow.Author.Rules.{rules}
 use Rattle.filing.proofs.end_of.Goals as goal
 
 pub returns : goal.returns

@@ -1,6 +1,5 @@
 -- A word is stored, or there is none.
 use mathlib.Core.Path.{sym, ap}
-use borrow.Author.Rules.{rules}
 use lib.ListN.{set}
 use lib.Seq.{set_out}
 use Rattle.filing.specs.Inside.{short_span}

@@ -1,7 +1,6 @@
 -- Three words are stored in their places.
 use mathlib.Core.Path.{ap, ◌∙◌}
 use native.Mathlib.Omega.{arith}
-use borrow.Author.Rules.{rules}
 use Prim.Native.Nat.{ℕ, ◌+◌, ◌*◌}
 use mathlib.Core.List.{◌∷◌, ◌++◌}
 use lib.ListN.{set, take, drop, length-set}

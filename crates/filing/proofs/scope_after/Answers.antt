@@ -1,9 +1,6 @@
 -- By the kind; a code of no kind changes nothing.
 use mathlib.Core.Path.{◌≡◌, sym, ap, ◌∙◌}
-use borrow.Author.Rules.{rules}
-use Rattle.answers.specs.Answers.{Outcome}
 use Rattle.startcode.specs.Kinds.{kind_of, kind_says}
-use Rattle.startcode.specs.declared.Kind.{Kind}
 use Rattle.startcode.specs.declared.UnitKind.{UnitKind}
 use Rattle.filing.specs.Inside.{scope_after}
 use Rattle.filing.proofs.scope_after.Goals as goal

@@ -1,7 +1,4 @@
 -- By whether it fits.
-use mathlib.Core.Path.{sym, ap}
-use mathlib.Core.Bool.{Bool, cond}
-use borrow.Author.Rules.{rules}
 use borrow.Author.Tests.{lt-ltb, le-ltb}
 use Rattle.filing.proofs.short_span.Goals as goal
 

@@ -1,7 +1,6 @@
 -- A word is read, or there is none.
 use mathlib.Core.Path.{sym}
 use native.Mathlib.Omega.{arith}
-use borrow.Author.Rules.{rules}
 use lib.ListN.{get_or-eq_default}
 use Rattle.filing.proofs.span_of.Goals as goal
 

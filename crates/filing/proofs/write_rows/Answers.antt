@@ -1,15 +1,13 @@
 -- The rows that are written and those that are left make the whole.
-use Prim.Native.Nat.{ℕ, ◌+◌, ◌-◌, ◌*◌, ◌≤◌}
+use Prim.Native.Nat.{ℕ, ◌+◌, ◌*◌, ◌≤◌}
 use mathlib.Core.Path.{◌≡◌, sym, ◌∙◌, subst}
-use mathlib.Core.List.{List}
 use native.Mathlib.Omega.{arith}
-use borrow.Author.Rules.{rules}
 use lib.ListN.{length}
 use Rattle.startcode.specs.Prefix.{next_prefix}
 use Rattle.grammar.specs.Rows.{placed, row_length}
 use Rattle.grammar.proofs.WalkLaws.{unit_between}
 use Rattle.units.proofs.UnitLaws.{Advanced}
-use Rattle.filing.proofs.PassLaws.{Writing, UnitHere, unit_here, writing_start, writing_room, writing_kept, writing_next, writing_end}
+use Rattle.filing.proofs.PassLaws.{UnitHere, unit_here, writing_start, writing_room, writing_kept, writing_next, writing_end}
 use Rattle.filing.proofs.write_rows.Goals as goal
 use Rattle.filing.proofs.write_rows.Goals.{In-loop-at}
 

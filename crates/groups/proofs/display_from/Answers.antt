@@ -1,15 +1,13 @@
 -- What is left of the head has the same display extension.
-use Prim.Native.Nat.{ℕ, ◌+◌, ◌-◌, ◌≤◌, ◌<◌}
+use Prim.Native.Nat.{ℕ, ◌+◌, ◌≤◌, ◌<◌}
 use mathlib.Core.Path.{◌≡◌, sym, ◌∙◌, ap}
 use mathlib.Core.List.{List, []}
 use native.Mathlib.Omega.{arith}
-use borrow.Author.Rules.{rules}
-use lib.ListN.{length}
 use Rattle.groups.specs.Reader.{display_in}
 use Rattle.groups.specs.Inside.{display_by, units_from}
 use Rattle.groups.specs.declared.Display.{Display}
 use Rattle.groups.specs.declared.InHead.{InHead}
-use Rattle.groups.proofs.WalkLaws.{Walked, walked, units_end, units_over, Showing, show_end, show_next}
+use Rattle.groups.proofs.WalkLaws.{Walked, walked, units_end, units_over, show_end, show_next}
 use Rattle.groups.proofs.display_from.Goals as goal
 use Rattle.groups.proofs.display_from.Goals.{After-in_group_head, After-next_prefix-end}
 

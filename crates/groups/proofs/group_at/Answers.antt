@@ -1,6 +1,5 @@
 -- The stream's refusal, or the walk.
 use mathlib.Core.Path.{sym, ap, ◌∙◌}
-use borrow.Author.Rules.{rules}
 use Rattle.filing.specs.Filing.{checked_says}
 use Rattle.groups.proofs.Theorems.{here_start, at_good, at_refused}
 use Rattle.groups.proofs.group_at.Goals as goal

@@ -1,6 +1,5 @@
 -- The header's answer decides, and then the head.
 use mathlib.Core.Path.{◌≡◌, sym, ap, ◌∙◌}
-use borrow.Author.Rules.{rules}
 use Rattle.answers.specs.Answers.{Outcome, done}
 use Rattle.bodies.specs.Answers.{answer_of, header_gives, header_says}
 use Rattle.bodies.specs.Reader.{header_of}

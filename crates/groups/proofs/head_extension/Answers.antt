@@ -1,6 +1,5 @@
 -- The layout's answer decides.
 use mathlib.Core.Path.{◌≡◌, sym, ap, ◌∙◌}
-use borrow.Author.Rules.{rules}
 use Rattle.answers.specs.Answers.{Outcome}
 use Rattle.bodies.specs.Answers.{answer_of, Extension, extension_gives, extension_says}
 use Rattle.bodies.specs.Reader.{extension_of}

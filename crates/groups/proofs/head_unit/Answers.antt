@@ -1,7 +1,5 @@
 -- Each arm is one kind; any other ends the head.
 use mathlib.Core.Path.{refl}
-use mathlib.Core.List.{[], ◌∷◌}
-use borrow.Author.Rules.{rules}
 use Rattle.startcode.specs.declared.Kind.TheVariants as kind
 use Rattle.grammar.proofs.KindLaws.{other_kind}
 use Rattle.groups.proofs.WalkLaws.{ends_head}

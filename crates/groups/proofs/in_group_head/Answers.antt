@@ -1,6 +1,5 @@
 -- By the kind of its code.
 use mathlib.Core.Path.{refl, sym, ap, ◌∙◌}
-use borrow.Author.Rules.{rules}
 use Rattle.startcode.specs.Kinds.{kind_says}
 use Rattle.groups.proofs.in_group_head.Goals as goal
 

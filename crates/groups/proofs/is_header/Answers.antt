@@ -1,7 +1,4 @@
 -- One kind, and any other.
-use mathlib.Core.Path.{refl}
-use mathlib.Core.List.{[], ◌∷◌}
-use borrow.Author.Rules.{rules}
 use Rattle.startcode.specs.declared.Kind.TheVariants as kind
 use Rattle.grammar.proofs.KindLaws.{other_kind}
 use Rattle.groups.proofs.is_header.Goals as goal

@@ -1,6 +1,5 @@
 -- The entry of the table, or nothing.
 use mathlib.Core.Path.{ap}
-use borrow.Author.Rules.{rules}
 use Rattle.answers.specs.Answers.{done}
 use Rattle.handover.specs.Numbers.{ratio_numbers}
 use Rattle.handover.proofs.HandedLaws.{handed_by}

@@ -1,6 +1,5 @@
 -- The numbers of what was read, or the refusal.
 use mathlib.Core.Path.{◌≡◌, ap, ◌∙◌}
-use borrow.Author.Rules.{rules}
 use Rattle.bodies.specs.Answers.{answer_of, extension_gives, extension_says}
 use Rattle.bodies.specs.Reader.{extension_of}
 use Rattle.handover.specs.Numbers.{scope_for, extension_numbers}

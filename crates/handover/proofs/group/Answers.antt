@@ -1,5 +1,4 @@
 -- The group's numbers, NO ROW, or the stream's refusal.
-use borrow.Author.Rules.{rules}
 use Rattle.groups.specs.Groups.{group_says}
 use Rattle.handover.specs.Numbers.{group_numbers}
 use Rattle.handover.proofs.HandedLaws.{arm_hands, handed_refused}

@@ -1,5 +1,4 @@
 -- Five numbers, and three more where the colour is given.
-use borrow.Author.Rules.{rules}
 use Rattle.handover.specs.Numbers.{display_numbers}
 use Rattle.handover.proofs.hand_display.Goals as goal
 

@@ -1,5 +1,4 @@
 -- The numbers of the header, and of the display extension where it is given.
-use borrow.Author.Rules.{rules}
 use Rattle.handover.specs.Numbers.{header_numbers}
 use Rattle.handover.proofs.hand_group.Goals as goal
 

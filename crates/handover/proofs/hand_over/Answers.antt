@@ -1,7 +1,6 @@
 -- Values with none after them.
 use mathlib.Core.Path.{ap}
 use mathlib.Core.List.{append-nil}
-use borrow.Author.Rules.{rules}
 use Rattle.answers.specs.Answers.{done}
 use Rattle.handover.proofs.HandedLaws.{handed_by}
 use Rattle.handover.proofs.hand_over.Goals as goal

@@ -2,7 +2,6 @@
 use mathlib.Core.Path.{refl, sym, ap}
 use mathlib.Core.List.{[]}
 use native.Mathlib.Omega.{arith}
-use borrow.Author.Rules.{rules}
 use Rattle.answers.specs.Answers.{done}
 use Rattle.handover.specs.Numbers.{ratio_numbers}
 use Rattle.handover.proofs.HandedLaws.{handed_by, handed_all}

@@ -1,5 +1,4 @@
 -- The header's numbers, or the body's refusal.
-use borrow.Author.Rules.{rules}
 use Rattle.bodies.specs.Answers.{answer_of, header_gives, header_says}
 use Rattle.handover.specs.Numbers.{header_numbers}
 use Rattle.handover.proofs.HandedLaws.{arm_hands, handed_refused}

@@ -1,12 +1,8 @@
 -- The numbers that are written, and those that are left as they were.
-use Prim.Native.Nat.{ℕ, ◌+◌, ◌-◌, ◌≤◌}
-use mathlib.Core.Path.{◌≡◌, refl, sym, ap, ◌∙◌}
+use Prim.Native.Nat.{◌-◌, ◌≤◌}
+use mathlib.Core.Path.{◌≡◌}
 use mathlib.Core.List.{◌++◌}
-use native.Mathlib.Omega.{arith}
-use borrow.Author.Rules.{rules}
-use lib.ListN.{length, get_or, take, drop, set, length-set}
-use lib.Seq.{take_all}
-use Rattle.handover.proofs.HandedLaws.{write_step}
+use lib.ListN.{length, take, drop}
 use Rattle.handover.proofs.write_over.Given as goal
 
 abbrev pub invariant-loop-i : goal.invariant-loop-i

@@ -5,7 +5,6 @@ use mathlib.Core.Bool.{Bool, ◌&&◌, not}
 use lib.Dec.{eqb}
 use Rattle.layout.specs.Reader.{allows}
 use Rattle.layout.specs.declared.Values.{Values}
-use borrow.Author.Rules.{rules}
 use Rattle.layout.proofs.allowed.Goals as goal
 
 allows_same : (rule other : Values) (v : ℕ) → rule ≡ other → allows other v ≡ allows rule v

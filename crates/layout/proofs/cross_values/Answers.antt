@@ -6,7 +6,6 @@ use lib.ListN.{length}
 use Rattle.layout.specs.Layouts.{fields}
 use Rattle.layout.specs.Reader.{cross}
 use Rattle.layout.specs.declared.Layout.{Layout}
-use borrow.Author.Rules.{rules}
 use Rattle.layout.proofs.cross_values.Goals as goal
 
 by_layout : (layout other : Layout) (vs : List ℕ) → layout ≡ other → cross other vs ≡ cross layout vs

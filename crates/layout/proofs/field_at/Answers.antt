@@ -7,7 +7,6 @@ use Rattle.layout.specs.Layouts.{fields}
 use Rattle.layout.specs.declared.Field.{Field}
 use Rattle.layout.specs.declared.Layout.{Layout}
 use Rattle.layout.specs.declared.Layout.TheVariants.{Header, Display, Coloured, Copyright}
-use borrow.Author.Rules.{rules}
 use Rattle.layout.proofs.field_at.Goals as goal
 
 -- the index is below the count of the layout of the arm

@@ -3,7 +3,6 @@ use mathlib.Core.Path.{sym, ap}
 use lib.ListN.{length}
 use Rattle.layout.specs.Layouts.{fields}
 use Rattle.layout.specs.declared.Layout.{Layout}
-use borrow.Author.Rules.{rules}
 use Rattle.layout.proofs.field_count.Goals as goal
 
 pub returns-in-Header : goal.returns-in-Header

@@ -1,13 +1,9 @@
 -- What is left of the bytes is all zero exactly where the whole is stuffed.
 use Prim.Native.Nat.{◌-◌, ◌*◌, ◌≤◌}
-use mathlib.Core.Path.{◌≡◌, sym, ◌∙◌}
-use native.Mathlib.Omega.{arith}
-use borrow.Author.Tests.{eq-eqb, ne_eqb}
+use mathlib.Core.Path.{◌≡◌}
 use lib.ListN.{length, drop}
 use Rattle.bits.specs.Bits.{bits_of}
 use Rattle.layout.specs.Reader.{all_zero, stuffing}
-use Rattle.layout.proofs.EndLaws.{stuffed_at, zero_end, zero_more, zero_not}
-use borrow.Author.Rules.{rules}
 use Rattle.layout.proofs.is_stuffed.Given as goal
 
 abbrev pub invariant-loop-i : goal.invariant-loop-i

@@ -7,7 +7,6 @@ use Rattle.layout.specs.Reader.{both, cross, ended}
 use Rattle.layout.specs.declared.Verdict.{Verdict}
 use Rattle.layout.proofs.LayoutLaws.{table}
 use Rattle.layout.proofs.JudgeLaws.{ended_by}
-use borrow.Author.Rules.{rules}
 use Rattle.layout.proofs.judge_body.Goals as goal
 use Rattle.layout.proofs.judge_body.Goals.{In-Fine}
 

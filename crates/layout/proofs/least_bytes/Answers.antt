@@ -1,7 +1,6 @@
 -- The bytes that a layout asks for.
 use mathlib.Core.Path.{sym, ap}
 use Rattle.layout.specs.Layouts.{least_bytes}
-use borrow.Author.Rules.{rules}
 use Rattle.layout.proofs.least_bytes.Goals as goal
 
 pub returns-in-Header : goal.returns-in-Header

@@ -8,7 +8,6 @@ use Rattle.layout.specs.Values.{copyright_number, Ownership, ownership}
 use Rattle.layout.specs.Reader.{owner_rules, owned_by}
 use Rattle.layout.proofs.LayoutLaws.{spelled}
 use Rattle.layout.proofs.OwnerLaws.{unowned_rules, owned_rules}
-use borrow.Author.Rules.{rules}
 use Rattle.layout.proofs.owner_rules.Goals as goal
 
 -- what values say of the owner

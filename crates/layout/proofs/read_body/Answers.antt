@@ -14,7 +14,6 @@ use Rattle.layout.specs.declared.Layout.{Layout}
 use Rattle.layout.specs.declared.Verdict.{Verdict}
 use Rattle.layout.proofs.JudgeLaws.{reading_short, both_says}
 use Rattle.layout.proofs.TakenLaws.{across, reading_taken, taken_length}
-use borrow.Author.Rules.{rules}
 use Rattle.layout.proofs.read_body.Goals as goal
 use Rattle.layout.proofs.read_body.Goals.{In-Fine}
 

@@ -12,7 +12,6 @@ use Rattle.layout.specs.Reader.{◌>>◌, ruled}
 use Rattle.layout.specs.Inside.{taken}
 use Rattle.layout.specs.declared.Verdict.{Verdict}
 use Rattle.layout.proofs.ReadingLaws.{read_inside, taken_value, taken_fail}
-use borrow.Author.Rules.{rules}
 use Rattle.layout.proofs.read_field.Goals as goal
 use Rattle.layout.proofs.read_field.Goals.{After-read_bits}
 

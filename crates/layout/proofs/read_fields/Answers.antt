@@ -1,5 +1,5 @@
 -- The values that are taken, and those that are still to be taken, are the body's.
-use Prim.Native.Nat.{ℕ, ◌+◌, ◌-◌, ◌≤◌}
+use Prim.Native.Nat.{ℕ, ◌+◌, ◌≤◌}
 use mathlib.Core.Path.{◌≡◌, refl, sym, ap, subst, ◌∙◌}
 use mathlib.Core.List.{List}
 use native.Mathlib.Omega.{arith}
@@ -13,7 +13,6 @@ use Rattle.layout.specs.declared.Field.{Field}
 use Rattle.layout.specs.declared.FieldReading.{FieldReading}
 use Rattle.layout.proofs.LayoutLaws.{table, rest_count}
 use Rattle.layout.proofs.ReadingLaws.{onto, onto_none, taken_step, taken_stop, taken_end}
-use borrow.Author.Rules.{rules}
 use Rattle.layout.proofs.read_fields.Goals as goal
 use Rattle.layout.proofs.read_fields.Goals.{After-field_at-field}
 

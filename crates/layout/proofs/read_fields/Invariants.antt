@@ -1,19 +1,11 @@
 -- The values that are taken, and those that are still to be taken, are the body's.
-use Prim.Native.Nat.{ℕ, ◌+◌, ◌-◌, ◌≤◌}
-use mathlib.Core.Path.{◌≡◌, refl, sym, ap, subst, ◌∙◌}
-use mathlib.Core.List.{List}
-use native.Mathlib.Omega.{arith}
-use lib.ListN.{length, take, drop, set, length-set, drop_of_length-le}
+use Prim.Native.Nat.{◌+◌, ◌-◌, ◌≤◌}
+use mathlib.Core.Path.{◌≡◌}
+use lib.ListN.{length, take, drop}
 use Rattle.bits.specs.Bits.{bits_of}
-use Rattle.bits.specs.Lists.{All}
-use Rattle.bits.proofs.ListLaws.{all_drop}
-use Rattle.layout.specs.Layouts.{width_of, fields, bit_count}
-use Rattle.layout.specs.Inside.{field_says, taken, taken_from}
-use Rattle.layout.specs.declared.Field.{Field}
-use Rattle.layout.specs.declared.FieldReading.{FieldReading}
-use Rattle.layout.proofs.LayoutLaws.{table, rest_count}
-use Rattle.layout.proofs.ReadingLaws.{onto, onto_none, taken_step, taken_stop, taken_end}
-use borrow.Author.Rules.{rules}
+use Rattle.layout.specs.Layouts.{fields, bit_count}
+use Rattle.layout.specs.Inside.{taken_from}
+use Rattle.layout.proofs.ReadingLaws.{onto}
 use Rattle.layout.proofs.read_fields.Given as goal
 
 abbrev pub invariant-loop-i : goal.invariant-loop-i

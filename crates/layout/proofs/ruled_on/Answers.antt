@@ -6,7 +6,6 @@ use borrow.Author.Tests.{eq-eqb, ne_eqb}
 use Rattle.layout.specs.Reader.{refuse_if, ruled}
 use Rattle.layout.specs.declared.Rule.{Rule}
 use Rattle.layout.specs.declared.Fault.TheVariants.{Marker, Value}
-use borrow.Author.Rules.{rules}
 use Rattle.layout.proofs.ruled_on.Goals as goal
 use Rattle.layout.proofs.ruled_on.Goals.{After-allowed}
 

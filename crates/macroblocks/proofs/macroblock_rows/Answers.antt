@@ -1,7 +1,6 @@
 -- By progressive, the law of each formula.
 use native.Mathlib.Omega.{arith}
 use Rattle.macroblocks.proofs.RowLaws.{interlaced_rows, progressive_rows}
-use borrow.Author.Rules.{rules}
 use Rattle.macroblocks.proofs.macroblock_rows.Goals as goal
 
 pub returns-then-h-eq0 : goal.returns-then-h-eq0

@@ -3,7 +3,6 @@ use mathlib.Core.Path.{sym}
 use native.Mathlib.Omega.{arith}
 use Rattle.ratios.specs.Ratios.{display_ratios, display_ratio}
 use Rattle.ratios.proofs.RatioLaws.{entry_there, entry_low, entry_high}
-use borrow.Author.Rules.{rules}
 use Rattle.ratios.proofs.display_ratio.Goals as goal
 
 pub returns-then-aspect-lt2 : goal.returns-then-aspect-lt2

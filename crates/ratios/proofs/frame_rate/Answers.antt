@@ -3,7 +3,6 @@ use mathlib.Core.Path.{sym}
 use native.Mathlib.Omega.{arith}
 use Rattle.ratios.specs.Ratios.{frame_rates, frame_rate}
 use Rattle.ratios.proofs.RatioLaws.{entry_there, entry_low, entry_high}
-use borrow.Author.Rules.{rules}
 use Rattle.ratios.proofs.frame_rate.Goals as goal
 
 pub returns-then-code-lt1 : goal.returns-then-code-lt1

@@ -1,7 +1,6 @@
 -- Where three bytes are not left no prefix stands.
 use mathlib.Core.Path.{sym}
 use native.Mathlib.Omega.{arith}
-use borrow.Author.Rules.{rules}
 use lib.ListN.{drop, length-drop}
 use Rattle.startcode.proofs.PrefixLaws.{begins_short}
 use Rattle.startcode.proofs.prefix_at.Goals as goal

@@ -1,13 +1,8 @@
 -- The steps so far lead to the present place, whose third byte is looked at; where the arms meet, one step more leads past it.
-use Prim.Native.Nat.{ℕ, ◌+◌, ◌-◌, ◌≤◌, ◌<◌}
-use mathlib.Core.Path.{◌≡◌, refl, sym, ◌∙◌}
-use mathlib.Core.List.{List}
-use mathlib.Core.Logic.{⊎_elim}
-use native.Mathlib.Omega.{arith}
-use borrow.Author.Rules.{rules}
+use Prim.Native.Nat.{◌-◌, ◌≤◌}
+use mathlib.Core.Path.{◌≡◌}
 use lib.ListN.{length}
 use Rattle.startcode.specs.Inside.{Leads}
-use Rattle.startcode.proofs.StepLaws.{leads_none, leads_on, leads_one, leads_three, leads_over, ends_there, ends_last}
 use Rattle.startcode.proofs.search.Given as goal
 
 abbrev pub invariant-loop-third : goal.invariant-loop-third

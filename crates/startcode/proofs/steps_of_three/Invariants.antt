@@ -1,11 +1,8 @@
 -- Each third byte over 1 is a step of three; where the turn ends, its steps are added to those before it.
-use Prim.Native.Nat.{ℕ, ◌+◌, ◌-◌}
+use Prim.Native.Nat.{◌-◌}
 use mathlib.Core.Path.{◌≡◌}
-use native.Mathlib.Omega.{arith}
-use borrow.Author.Rules.{rules}
 use lib.ListN.{length}
 use Rattle.startcode.specs.Inside.{Runs}
-use Rattle.startcode.proofs.StepLaws.{runs_on}
 use Rattle.startcode.proofs.steps_of_three.Given as goal
 
 abbrev pub invariant-loop-place : goal.invariant-loop-place

@@ -1,5 +1,4 @@
 -- The count of units, or the refusal with its offset.
-use borrow.Author.Rules.{rules}
 use Rattle.filing.specs.Filing.{filing_says}
 use Rattle.statuses.specs.Answers.{filed_answer}
 use Rattle.answers.proofs.OutcomeLaws.{arm_answers}

@@ -1,6 +1,5 @@
 -- The number of the kind, or that of UNKNOWN.
 use mathlib.Core.Path.{refl}
-use borrow.Author.Rules.{rules}
 use Rattle.startcode.specs.Kinds.{kind_says}
 use Rattle.statuses.specs.Answers.{kind_answer}
 use Rattle.answers.proofs.OutcomeLaws.{arm_answers}

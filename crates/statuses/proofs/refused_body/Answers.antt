@@ -4,7 +4,6 @@ use Rattle.bodies.specs.Answers.{fault_bit}
 use Rattle.layout.specs.declared.Fault.{Fault}
 use Rattle.layout.specs.declared.Fault.TheVariants.{Short, Marker, Value, Stuffing}
 use Rattle.statuses.specs.Answers.{offset_in}
-use borrow.Author.Rules.{rules}
 use Rattle.statuses.proofs.refused_body.Goals as goal
 
 no_offset : (why : Fault) → offset_in (fault_bit why) ≡ 0

@@ -1,5 +1,4 @@
 -- The number and the bit of the reason, and the offset.
-use borrow.Author.Rules.{rules}
 use Rattle.statuses.proofs.refused_stream.Goals as goal
 
 pub returns : goal.returns

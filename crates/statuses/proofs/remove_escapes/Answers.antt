@@ -1,5 +1,4 @@
 -- The bit count, or the refusal.
-use borrow.Author.Rules.{rules}
 use Rattle.payload.specs.Escape.{removed_says}
 use Rattle.statuses.specs.Answers.{counted}
 use Rattle.answers.proofs.OutcomeLaws.{arm_answers}

@@ -2,7 +2,6 @@
 use Prim.Native.Nat.{ℕ, ◌+◌}
 use mathlib.Core.Path.{sym, ap, ◌∙◌}
 use native.Mathlib.Omega.{arith}
-use borrow.Author.Rules.{rules}
 use Rattle.rows.proofs.RowLaws.{There, there, no_row}
 use Rattle.statuses.specs.declared.Part.{Part}
 use Rattle.statuses.specs.Answers.{part_at}

@@ -1,6 +1,5 @@
 -- The layout's reading decides the step.
 use mathlib.Core.Path.{◌≡◌, sym, ap, ◌∙◌}
-use borrow.Author.Rules.{rules}
 use Rattle.bodies.specs.Answers.{extension_gives}
 use Rattle.bodies.specs.Reader.{extension_result}
 use Rattle.bodies.specs.declared.ExtensionAnswer.{ExtensionAnswer}

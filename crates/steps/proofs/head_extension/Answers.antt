@@ -1,7 +1,6 @@
 -- The tests in order, and then the reading.
 use mathlib.Core.Path.{◌≡◌, sym, ap, ◌∙◌}
 use mathlib.Core.Bool.{true}
-use borrow.Author.Rules.{rules}
 use Rattle.bodies.specs.Extensions.{numbered}
 use Rattle.grammar.specs.Reader.{by}
 use Rattle.grammar.specs.declared.State.TheVariants.{Head}

@@ -2,7 +2,6 @@
 use Prim.Native.Nat.{ℕ}
 use mathlib.Core.Path.{◌≡◌, sym, ap, ◌∙◌}
 use mathlib.Core.Bool.{Bool, false}
-use borrow.Author.Rules.{rules}
 use Rattle.bodies.specs.Answers.{header_gives}
 use Rattle.bodies.specs.declared.HeaderAnswer.{HeaderAnswer}
 use Rattle.bodies.specs.declared.SequenceHeader.{SequenceHeader}

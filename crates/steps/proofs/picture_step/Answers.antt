@@ -1,6 +1,5 @@
 -- A body with no byte but 00 is SHORT.
 use mathlib.Core.Path.{sym, ◌∙◌}
-use borrow.Author.Rules.{rules}
 use Rattle.steps.proofs.picture_step.Goals as goal
 
 pub returns-then-all_zero : goal.returns-then-all_zero

@@ -1,7 +1,6 @@
 -- Each arm is one line of the table; where it comes to the last, the table has no such kind.
 use mathlib.Core.Path.{refl}
 use mathlib.Core.List.{[], ◌∷◌}
-use borrow.Author.Rules.{rules}
 use Rattle.startcode.specs.declared.Kind.TheVariants as kind
 use Rattle.grammar.proofs.KindLaws.{last_arm}
 use Rattle.units.proofs.after_slice.Goals as goal

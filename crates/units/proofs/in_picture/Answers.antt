@@ -1,7 +1,4 @@
 -- Each arm is one line of the table; where it comes to the last, the table has no such kind.
-use mathlib.Core.Path.{refl}
-use mathlib.Core.List.{[], ◌∷◌}
-use borrow.Author.Rules.{rules}
 use Rattle.startcode.specs.declared.Kind.TheVariants as kind
 use Rattle.grammar.proofs.KindLaws.{other_kind}
 use Rattle.units.proofs.in_picture.Goals as goal

@@ -1,5 +1,4 @@
 -- Each arm is one state's table.
-use borrow.Author.Rules.{rules}
 use Rattle.units.proofs.in_state.Goals as goal
 
 pub returns-in-Start : goal.returns-in-Start

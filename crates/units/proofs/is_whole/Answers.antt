@@ -1,7 +1,4 @@
 -- Each arm is one kind; the last is for those whose bodies are not whole.
-use mathlib.Core.Path.{refl}
-use mathlib.Core.List.{[], ◌∷◌}
-use borrow.Author.Rules.{rules}
 use Rattle.startcode.specs.declared.Kind.TheVariants as kind
 use Rattle.grammar.proofs.KindLaws.{other_kind}
 use Rattle.units.proofs.LengthLaws.{not_whole}

@@ -1,6 +1,5 @@
 -- The whole body, or without its trailing zero bytes.
 use mathlib.Core.Path.{sym, ◌∙◌}
-use borrow.Author.Rules.{rules}
 use Rattle.units.proofs.length_in.Goals as goal
 
 pub returns-then-is_whole : goal.returns-then-is_whole

@@ -1,8 +1,6 @@
 -- Each table has one kind; where the match comes to its last arm, the kind is neither.
-use mathlib.Core.Path.{◌≡◌, refl}
-use mathlib.Core.List.{[], ◌∷◌}
+use mathlib.Core.Path.{◌≡◌}
 use mathlib.Core.Bool.{Bool, true, false, cond}
-use borrow.Author.Rules.{rules}
 use Rattle.startcode.specs.declared.Kind.{Kind}
 use Rattle.startcode.specs.declared.Kind.TheVariants as kind
 use Rattle.grammar.specs.Grammar.{StreamUnit}

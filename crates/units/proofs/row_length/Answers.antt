@@ -1,6 +1,5 @@
 -- By the kind; a body of no kind is trimmed.
 use mathlib.Core.Path.{sym, ap, ◌∙◌}
-use borrow.Author.Rules.{rules}
 use Rattle.startcode.specs.Kinds.{kind_says}
 use Rattle.units.proofs.LengthLaws.{length_by}
 use Rattle.units.proofs.row_length.Goals as goal

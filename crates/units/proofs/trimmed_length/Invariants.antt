@@ -1,12 +1,8 @@
 -- The bytes that are left are trimmed to what all are.
-use Prim.Native.Nat.{ℕ, ◌≤◌}
-use mathlib.Core.Path.{◌≡◌, sym, ap, ◌∙◌}
-use native.Mathlib.Omega.{arith}
-use borrow.Author.Rules.{rules}
+use Prim.Native.Nat.{◌≤◌}
+use mathlib.Core.Path.{◌≡◌}
 use lib.ListN.{length, take}
-use lib.Seq.{length-take-le}
 use Rattle.grammar.specs.Rows.{trimmed}
-use Rattle.units.proofs.LengthLaws.{trim_more, trim_end, trim_all}
 use Rattle.units.proofs.trimmed_length.Given as goal
 
 abbrev pub invariant-loop-n : goal.invariant-loop-n

@@ -2,7 +2,6 @@
 use Prim.Native.Nat.{ℕ}
 use mathlib.Core.Path.{◌≡◌, sym, ap, ◌∙◌}
 use mathlib.Core.Bool.{cond}
-use borrow.Author.Rules.{rules}
 use lib.ListN.{length}
 use Rattle.answers.specs.Answers.{Outcome, done}
 use Rattle.startcode.specs.Kinds.{kind_of, kind_says}
