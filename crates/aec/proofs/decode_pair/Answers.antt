@@ -72,9 +72,9 @@ pub renewed_pair-requires : goal.renewed_pair-requires
 renewed_pair-requires c = good (goal.at.renewed_pair-requires c).In-Fine
 
 -- a bin by the definition's prediction
-by-pair : (bits : List ℕ) (x : State) (a b : Context) (g : Prediction) → g ≡ pair_of a b →
+by_pair : (bits : List ℕ) (x : State) (a b : Context) (g : Prediction) → g ≡ pair_of a b →
     bin_of bits x g.p (split_of x (g.lg / 4)) ≡ stepping bits x a b tt
-by-pair bits x a b g e = step_is _ _ g _ refl ∙ ap (step_of bits x) e
+by_pair bits x a b g e = step_is _ _ g _ refl ∙ ap (step_of bits x) e
 
 -- the quick step's answer, by the definition's split
 stepped : (c : In-Done) →
@@ -85,7 +85,7 @@ stepped c =
     let a = c.args in
     let bits = payload a.bytes.now a.count in
     subst (λ t. tried_says t (bin_of bits a.x g.p c.split_range.result)) c.in-Done.is c.step.ensures
-    ∙ ap (bin_of bits a.x g.p) c.split_range.ensures.0 ∙ by-pair bits a.x a.a a.b g c.pair-g.ensures
+    ∙ ap (bin_of bits a.x g.p) c.split_range.ensures.0 ∙ by_pair bits a.x a.a a.b g c.pair-g.ensures
 
 pub returns-in-Done : goal.returns-in-Done
 unfolding decode_pair_of
@@ -103,7 +103,7 @@ unfolding decode_pair_of
 returns-in-Slow c =
     let a = c.args in
     c.renewed_pair.ensures
-    ∙ ap (λ o. and_then o (updating_pair a.a a.b)) (c.slow.ensures ∙ by-pair (payload a.bytes.now a.count) a.x a.a a.b _ c.pair-g.ensures)
+    ∙ ap (λ o. and_then o (updating_pair a.a a.b)) (c.slow.ensures ∙ by_pair (payload a.bytes.now a.count) a.x a.a a.b _ c.pair-g.ensures)
     ∙ goes (λ u. and_then (stepping (payload a.bytes.now a.count) a.x a.a a.b u) (updating_pair a.a a.b)) (fine (goal.at.returns-in-Slow c).In-Fine)
 
 pub returns-in-Refused : goal.returns-in-Refused

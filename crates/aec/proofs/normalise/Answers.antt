@@ -30,11 +30,11 @@ pub loop-v-init : goal.loop-v-init
 loop-v-init c = (search rules, search rules, search rules, refl)
 
 module _ (c : In-Done) where
-  bit-taken : done (c.in-Done.more, c.in-Done.next) ≡ double_of (drop c.loop-v.at (payload c.args.bytes.now c.args.count)) c.loop-v.v c.loop-v.at
-  bit-taken = ap doubled_says (sym c.in-Done.is) ∙ c.take_bit.ensures
+  bit_taken : done (c.in-Done.more, c.in-Done.next) ≡ double_of (drop c.loop-v.at (payload c.args.bytes.now c.args.count)) c.loop-v.v c.loop-v.at
+  bit_taken = ap doubled_says (sym c.in-Done.is) ∙ c.take_bit.ensures
 
   bound : Taken (payload c.args.bytes.now c.args.count) c.loop-v.v c.loop-v.at c.in-Done.more c.in-Done.next
-  bound = let a = c.args in taken (payload c.args.bytes.now c.args.count) _ _ _ _ (all_payload a.bytes.now a.count) (sym bit-taken)
+  bound = let a = c.args in taken (payload c.args.bytes.now c.args.count) _ _ _ _ (all_payload a.bytes.now a.count) (sym bit_taken)
 
 pub overflow_add-n : goal.overflow_add-n
 overflow_add-n c =
@@ -49,7 +49,7 @@ loop-v-preserved c =
     let l = (goal.at.loop-v-preserved c).At-loop-v in
     let b = bound c in
     let h = lt-leb 256 c.loop-v.v c.loop-v-test.true in
-    (omega arith, omega arith, omega arith, loop_on enough counted (bits l) (shift l) _ c.loop-v.invariant.3 _ h (bit-taken c))
+    (omega arith, omega arith, omega arith, loop_on enough counted (bits l) (shift l) _ c.loop-v.invariant.3 _ h (bit_taken c))
 
 pub returns-in-Refused : goal.returns-in-Refused
 returns-in-Refused c =

@@ -28,11 +28,11 @@ returns-then-y-x c =
     remainder_even (payload c.args.bytes.now c.args.count) c.args.x c.args.y c.if-y-x.true
 
 module _ (c : In-Done) where
-  bit-taken : done (c.in-Done.more, c.in-Done.next) ≡ double_of (drop c.args.x.place (payload c.args.bytes.now c.args.count)) c.args.x.vt c.args.x.place
-  bit-taken = ap doubled_says (sym c.in-Done.is) ∙ c.take_bit.ensures
+  bit_taken : done (c.in-Done.more, c.in-Done.next) ≡ double_of (drop c.args.x.place (payload c.args.bytes.now c.args.count)) c.args.x.vt c.args.x.place
+  bit_taken = ap doubled_says (sym c.in-Done.is) ∙ c.take_bit.ensures
 
   bound : Taken (payload c.args.bytes.now c.args.count) c.args.x.vt c.args.x.place c.in-Done.more c.in-Done.next
-  bound = taken (payload c.args.bytes.now c.args.count) _ _ _ _ (all_payload c.args.bytes.now c.args.count) (sym bit-taken)
+  bound = taken (payload c.args.bytes.now c.args.count) _ _ _ _ (all_payload c.args.bytes.now c.args.count) (sym bit_taken)
 
 pub overflow_add-result : goal.overflow_add-result
 overflow_add-result c = let b = bound c in omega arith
@@ -43,7 +43,7 @@ overflow_sub-result-in-Done c = let b = bound (goal.at.overflow_sub-result-in-Do
 pub returns-in-Done : goal.returns-in-Done
 returns-in-Done c =
     let a = c.args in
-    goes (lessened a.y) (bit-taken (goal.at.returns-in-Done c).In-Done) ∙ sym (remainder_past (payload a.bytes.now a.count) a.x a.y c.if-y-x.false)
+    goes (lessened a.y) (bit_taken (goal.at.returns-in-Done c).In-Done) ∙ sym (remainder_past (payload a.bytes.now a.count) a.x a.y c.if-y-x.false)
 
 pub returns-in-Refused : goal.returns-in-Refused
 returns-in-Refused c =

@@ -29,11 +29,11 @@ pub loop-wide-init : goal.loop-wide-init
 loop-wide-init c = (search rules, search rules, search rules, refl)
 
 module _ (c : In-Done) where
-  bit-taken : done (c.in-Done.more, c.in-Done.next) ≡ double_of (drop c.loop-wide.at (payload c.args.bytes.now c.args.count)) c.loop-wide.v c.loop-wide.at
-  bit-taken = ap doubled_says (sym c.in-Done.is) ∙ c.take_bit.ensures
+  bit_taken : done (c.in-Done.more, c.in-Done.next) ≡ double_of (drop c.loop-wide.at (payload c.args.bytes.now c.args.count)) c.loop-wide.v c.loop-wide.at
+  bit_taken = ap doubled_says (sym c.in-Done.is) ∙ c.take_bit.ensures
 
   bound : Taken (payload c.args.bytes.now c.args.count) c.loop-wide.v c.loop-wide.at c.in-Done.more c.in-Done.next
-  bound = let a = c.args in taken (payload c.args.bytes.now c.args.count) _ _ _ _ (all_payload a.bytes.now a.count) (sym bit-taken)
+  bound = let a = c.args in taken (payload c.args.bytes.now c.args.count) _ _ _ _ (all_payload a.bytes.now a.count) (sym bit_taken)
 
 pub loop-wide-smaller : goal.loop-wide-smaller
 loop-wide-smaller c = let b = bound c in omega arith
@@ -43,7 +43,7 @@ loop-wide-preserved c =
     let l = (goal.at.loop-wide-preserved c).At-loop-wide in
     let b = bound c in
     let h = lt-leb 256 c.loop-wide.wide c.loop-wide-test.true in
-    (omega arith, omega arith, omega arith, loop_on enough twice (bits l) (shift l) _ c.loop-wide.invariant.3 _ h (bit-taken c))
+    (omega arith, omega arith, omega arith, loop_on enough twice (bits l) (shift l) _ c.loop-wide.invariant.3 _ h (bit_taken c))
 
 pub returns-in-Refused : goal.returns-in-Refused
 returns-in-Refused c =

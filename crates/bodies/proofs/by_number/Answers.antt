@@ -11,12 +11,12 @@ use Rattle.bodies.specs.declared.Scope.{Scope}
 use borrow.Author.Rules.{rules}
 use Rattle.bodies.proofs.by_number.Goals as goal
 
-not-four : (scope : Scope) (body : List ℕ) (number : ℕ) → (number ≡ 4 → ⊥) → by_number scope body number ≡ not_copyright scope body number
+not_four : (scope : Scope) (body : List ℕ) (number : ℕ) → (number ≡ 4 → ⊥) → by_number scope body number ≡ not_copyright scope body number
 unfolding by_number
-not-four scope body number h = ap (λ (b : Bool). cond b (copyright_of body) (not_copyright scope body number)) (ne_eqb number 4 h)
+not_four scope body number h = ap (λ (b : Bool). cond b (copyright_of body) (not_copyright scope body number)) (ne_eqb number 4 h)
 
-not-four-in : (here scope : Scope) (body : List ℕ) (number : ℕ) → here ≡ scope → (number ≡ 4 → ⊥) → by_number here body number ≡ not_copyright scope body number
-not-four-in here scope body number e h = not-four here body number h ∙ ap (λ (p : Scope). not_copyright p body number) e
+not_four_in : (here scope : Scope) (body : List ℕ) (number : ℕ) → here ≡ scope → (number ≡ 4 → ⊥) → by_number here body number ≡ not_copyright scope body number
+not_four_in here scope body number e h = not_four here body number h ∙ ap (λ (p : Scope). not_copyright p body number) e
 
 pub returns-then-number-eq4 : goal.returns-then-number-eq4
 unfolding by_number
@@ -28,16 +28,16 @@ pub returns-then-number-eq2 : goal.returns-then-number-eq2
 returns-then-number-eq2 c =
     let a = c.args in
     c.display.ensures
-    ∙ sym (not-four-in _ _ a.body.now a.number c.in-Head.is c.if-number-eq4.false ∙ ap (λ (b : Bool). cond b (display_of a.body.now) (good (opaque a.number))) (eq-eqb a.number 2 c.if-number-eq2.true))
+    ∙ sym (not_four_in _ _ a.body.now a.number c.in-Head.is c.if-number-eq4.false ∙ ap (λ (b : Bool). cond b (display_of a.body.now) (good (opaque a.number))) (eq-eqb a.number 2 c.if-number-eq2.true))
 
 pub returns-else-number-eq2 : goal.returns-else-number-eq2
 unfolding extension_gives
 returns-else-number-eq2 c =
     let a = c.args in
-    sym (not-four-in _ _ a.body.now a.number c.in-Head.is c.if-number-eq4.false ∙ ap (λ (b : Bool). cond b (display_of a.body.now) (good (opaque a.number))) (ne_eqb a.number 2 c.if-number-eq2.false))
+    sym (not_four_in _ _ a.body.now a.number c.in-Head.is c.if-number-eq4.false ∙ ap (λ (b : Bool). cond b (display_of a.body.now) (good (opaque a.number))) (ne_eqb a.number 2 c.if-number-eq2.false))
 
 pub returns-in-Picture : goal.returns-in-Picture
 unfolding extension_gives
 returns-in-Picture c =
     let a = c.args in
-    sym (not-four-in _ _ a.body.now a.number c.in-Picture.is c.if-number-eq4.false)
+    sym (not_four_in _ _ a.body.now a.number c.in-Picture.is c.if-number-eq4.false)

@@ -18,26 +18,26 @@ made_of flag owner original m n e = rw e
 
 -- the parts as they were read, and their bounds
 module _ (c : After-shared_slice_known-7-1) where
-  one-small : c.long-one.result < 1048576
-  one-small = omega (arith, fits_at copyright_fields c.args.values.now 6 c.requires.1 (omega arith), c.long-one.ensures.0)
+  one_small : c.long-one.result < 1048576
+  one_small = omega (arith, fits_at copyright_fields c.args.values.now 6 c.requires.1 (omega arith), c.long-one.ensures.0)
 
-  two-small : c.long-two.result < 4194304
-  two-small = omega (arith, fits_at copyright_fields c.args.values.now 8 c.requires.1 (omega arith), c.long-two.ensures.0)
+  two_small : c.long-two.result < 4194304
+  two_small = omega (arith, fits_at copyright_fields c.args.values.now 8 c.requires.1 (omega arith), c.long-two.ensures.0)
 
-  three-small : c.long-three.result < 4194304
-  three-small = omega (arith, fits_at copyright_fields c.args.values.now 10 c.requires.1 (omega arith), c.long-three.ensures.0)
+  three_small : c.long-three.result < 4194304
+  three_small = omega (arith, fits_at copyright_fields c.args.values.now 10 c.requires.1 (omega arith), c.long-three.ensures.0)
 
 pub overflow_mul-result : goal.overflow_mul-result
-overflow_mul-result c = omega (arith, one-small c)
+overflow_mul-result c = omega (arith, one_small c)
 
 pub overflow_mul-result-2 : goal.overflow_mul-result-2
-overflow_mul-result-2 c = omega (arith, two-small c)
+overflow_mul-result-2 c = omega (arith, two_small c)
 
 pub overflow_add-result : goal.overflow_add-result
-overflow_add-result c = omega (arith, one-small c, two-small c)
+overflow_add-result c = omega (arith, one_small c, two_small c)
 
 pub overflow_add-result-2 : goal.overflow_add-result-2
-overflow_add-result-2 c = omega (arith, one-small c, two-small c, three-small c)
+overflow_add-result-2 c = omega (arith, one_small c, two_small c, three_small c)
 
 pub returns : goal.returns
 unfolding copyright_record

@@ -17,15 +17,15 @@ use borrow.Author.Rules.{rules}
 use Rattle.bodies.proofs.is_opaque.Goals as goal
 use Rattle.bodies.proofs.is_opaque.Goals.{After-number_of}
 
-opaque-by : (c : After-number_of) (scope : Scope) (r : Result ℕ ℕ) → c.args.scope ≡ scope → c.number_of.result ≡ read_says r →
+opaque_by : (c : After-number_of) (scope : Scope) (r : Result ℕ ℕ) → c.args.scope ≡ scope → c.number_of.result ≡ read_says r →
     opaque_read scope r ≡ is_opaque c.args.scope c.args.body.now
-opaque-by c scope r p e =
+opaque_by c scope r p e =
     let a = c.args in
     ap (λ (p : Scope). opaque_read p r) (sym p) ∙ sym (opaque_read_lem a.scope a.body.now r (says_same (number_of a.body.now) r (sym c.number_of.ensures ∙ e)))
 
 -- in a head
 in_head : (c : After-number_of) (n : ℕ) → c.args.scope ≡ Head → c.number_of.result ≡ Value n → not (eqb n 4) && not (eqb n 2) ≡ is_opaque c.args.scope c.args.body.now
-in_head c n s e = opaque-by c _ (good n) s e
+in_head c n s e = opaque_by c _ (good n) s e
 
 pub returns-then-number-ne4 : goal.returns-then-number-ne4
 returns-then-number-ne4 c =
@@ -39,10 +39,10 @@ returns-else-number-ne4 c =
     ap not four ∙ ap (λ (t : Bool). not t && not (eqb n 2)) (sym four) ∙ in_head (goal.at.returns-else-number-ne4 c).After-number_of n c.in-Head.is c.in-Value.is
 
 pub returns-in-Picture : goal.returns-in-Picture
-returns-in-Picture c = opaque-by (goal.at.returns-in-Picture c).After-number_of _ (good c.in-Value.number) c.in-Picture.is c.in-Value.is
+returns-in-Picture c = opaque_by (goal.at.returns-in-Picture c).After-number_of _ (good c.in-Value.number) c.in-Picture.is c.in-Value.is
 
 pub returns-in-Missing : goal.returns-in-Missing
-returns-in-Missing c = opaque-by (goal.at.returns-in-Missing c).After-number_of _ (bad c.in-Missing.field-0) refl c.in-Missing.is
+returns-in-Missing c = opaque_by (goal.at.returns-in-Missing c).After-number_of _ (bad c.in-Missing.field-0) refl c.in-Missing.is
 
 pub returns-in-TooWide : goal.returns-in-TooWide
 returns-in-TooWide c = says_wide (number_of c.args.body.now) (sym c.number_of.ensures ∙ c.in-TooWide.is)

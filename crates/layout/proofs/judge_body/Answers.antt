@@ -13,8 +13,8 @@ use Rattle.layout.proofs.judge_body.Goals.{In-Fine}
 
 -- no rule across fields is broken: the end decides
 module _ (c : In-Fine) where
-  end-decides : ended c.args.layout c.args.body.now ≡ both (cross c.args.layout c.args.values.now) (ended c.args.layout c.args.body.now)
-  end-decides =
+  end_decides : ended c.args.layout c.args.body.now ≡ both (cross c.args.layout c.args.values.now) (ended c.args.layout c.args.body.now)
+  end_decides =
       ap (λ (v : Verdict). both v (ended c.args.layout c.args.body.now)) (sym c.in-Fine.is ∙ c.cross_values.ensures)
 
 pub overflow_sub-least_bytes : goal.overflow_sub-least_bytes
@@ -31,9 +31,9 @@ returns-in-Faulty c =
 pub returns-then-is_stuffed : goal.returns-then-is_stuffed
 returns-then-is_stuffed c =
     let a = c.args in
-    sym (ended_by a.layout a.body.now (c.least_bytes.result - 1) true (omega (arith, (table a.layout).whole, c.least_bytes.ensures)) (sym c.if-is_stuffed.true ∙ c.is_stuffed.ensures)) ∙ end-decides (goal.at.returns-then-is_stuffed c).In-Fine
+    sym (ended_by a.layout a.body.now (c.least_bytes.result - 1) true (omega (arith, (table a.layout).whole, c.least_bytes.ensures)) (sym c.if-is_stuffed.true ∙ c.is_stuffed.ensures)) ∙ end_decides (goal.at.returns-then-is_stuffed c).In-Fine
 
 pub returns-else-is_stuffed : goal.returns-else-is_stuffed
 returns-else-is_stuffed c =
     let a = c.args in
-    sym (ended_by a.layout a.body.now (c.least_bytes.result - 1) false (omega (arith, (table a.layout).whole, c.least_bytes.ensures)) (sym c.if-is_stuffed.false ∙ c.is_stuffed.ensures)) ∙ end-decides (goal.at.returns-else-is_stuffed c).In-Fine
+    sym (ended_by a.layout a.body.now (c.least_bytes.result - 1) false (omega (arith, (table a.layout).whole, c.least_bytes.ensures)) (sym c.if-is_stuffed.false ∙ c.is_stuffed.ensures)) ∙ end_decides (goal.at.returns-else-is_stuffed c).In-Fine

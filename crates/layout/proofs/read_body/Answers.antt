@@ -29,14 +29,14 @@ module _ (c : In-Fine) where
   abbrev vs : List ℕ
   vs = take (length (fields layout)) c.read_fields-read.result.values
 
-  were-taken : taken_from (fields layout) 0 (bits_of body) ≡ good vs
-  were-taken = sym c.read_fields-read.ensures ∙ ap (λ (v : Verdict). verdict_says v vs) c.in-Fine.is
+  were_taken : taken_from (fields layout) 0 (bits_of body) ≡ good vs
+  were_taken = sym c.read_fields-read.ensures ∙ ap (λ (v : Verdict). verdict_says v vs) c.in-Fine.is
 
   enough : least_bytes layout ≤ length body
   enough = omega (arith, c.least_bytes.ensures, c.if-body-least_bytes.false)
 
   as_many : length vs ≡ length (fields layout)
-  as_many = taken_length layout body enough vs were-taken
+  as_many = taken_length layout body enough vs were_taken
 
 pub returns-then-body-least_bytes : goal.returns-then-body-least_bytes
 returns-then-body-least_bytes c = sym (reading_short c.args.layout c.args.body.now (omega (arith, c.least_bytes.ensures, c.if-body-least_bytes.true)))
@@ -68,4 +68,4 @@ returns-in-Fine c =
     let found = c.judge_body-found.ensures ∙ ap (λ (n : ℕ). both (cross (layout (goal.at.returns-in-Fine c).In-Fine) (take n values)) (ended (layout (goal.at.returns-in-Fine c).In-Fine) (body (goal.at.returns-in-Fine c).In-Fine))) c.field_count-n.ensures in
     ap (λ (v : Verdict). verdict_says v (vs (goal.at.returns-in-Fine c).In-Fine)) found
     ∙ both_says (cross (layout (goal.at.returns-in-Fine c).In-Fine) (vs (goal.at.returns-in-Fine c).In-Fine)) (ended (layout (goal.at.returns-in-Fine c).In-Fine) (body (goal.at.returns-in-Fine c).In-Fine)) (vs (goal.at.returns-in-Fine c).In-Fine)
-    ∙ sym (reading_taken (layout (goal.at.returns-in-Fine c).In-Fine) (body (goal.at.returns-in-Fine c).In-Fine) (enough (goal.at.returns-in-Fine c).In-Fine) ∙ ap (across (layout (goal.at.returns-in-Fine c).In-Fine) (body (goal.at.returns-in-Fine c).In-Fine)) (were-taken (goal.at.returns-in-Fine c).In-Fine))
+    ∙ sym (reading_taken (layout (goal.at.returns-in-Fine c).In-Fine) (body (goal.at.returns-in-Fine c).In-Fine) (enough (goal.at.returns-in-Fine c).In-Fine) ∙ ap (across (layout (goal.at.returns-in-Fine c).In-Fine) (body (goal.at.returns-in-Fine c).In-Fine)) (were_taken (goal.at.returns-in-Fine c).In-Fine))

@@ -50,10 +50,10 @@ module _ (c : After-read_bits) where
       zeros_bounds a.bytes.now a.count a.place z at (sym c.count_zeros.ensures ∙ c.in-Before.is)
 
   -- what was read is the read's own answer, since at most 31 bits were asked for
-  read-value : (b : ℕ) → c.read_bits.result ≡ Value b →
+  read_value : (b : ℕ) → c.read_bits.result ≡ Value b →
       let a = c.args in
       read_at (payload a.bytes.now a.count) at z ≡ good b
-  read-value b e = let h = bounds.0 in within_value _ at z (omega arith) b (sym c.read_bits.ensures ∙ e)
+  read_value b e = let h = bounds.0 in within_value _ at z (omega arith) b (sym c.read_bits.ensures ∙ e)
 
   -- the shift loses nothing
   base : (1 * 2 ^ z) % 4294967296 ≡ 2 ^ z
@@ -71,7 +71,7 @@ pub overflow_add-result : goal.overflow_add-result
 overflow_add-result c =
     let r = (goal.at.overflow_add-result c).After-read_bits in
     let a = c.args in
-    let n = number_lt a.bytes.now a.count a.place (z r) (at r) c.in-Value.b (bounds r).0 (read-value r _ c.in-Value.is) in
+    let n = number_lt a.bytes.now a.count a.place (z r) (at r) c.in-Value.b (bounds r).0 (read_value r _ c.in-Value.is) in
     omega (arith, base r)
 
 pub overflow_add-result-in-Value : goal.overflow_add-result-in-Value
@@ -85,7 +85,7 @@ returns-in-Value c =
     let g = c.in-Value in
     let answer : ℕ → Outcome (Numbered ℕ) = λ p. done (record { number = p - 1 + g.b; next = at r + z r }) in
     ap answer (base r)
-    ∙ ap (number_of (z r) (at r)) (sym (read-value r _ g.is))
+    ∙ ap (number_of (z r) (at r)) (sym (read_value r _ g.is))
     ∙ read_answer r
 
 pub returns-in-Missing-read_bits : goal.returns-in-Missing-read_bits

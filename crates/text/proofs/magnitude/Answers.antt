@@ -16,10 +16,10 @@ use Rattle.text.proofs.magnitude.Goals as goal
 wide : (z : ℤ) → SFits w32 z → SFits w64 z
 wide z f = let m = f.sfits in record { sfits = omega arith }
 
-minus-wide : (z : ℤ) → SFits w32 z → SFits w64 (neg_ℤ z)
-minus-wide (pos zero) f = record { sfits = omega arith }
-minus-wide (pos (suc n)) f = let m = f.sfits in record { sfits = omega arith }
-minus-wide (negsuc n) f = let m = f.sfits in record { sfits = omega arith }
+minus_wide : (z : ℤ) → SFits w32 z → SFits w64 (neg_ℤ z)
+minus_wide (pos zero) f = record { sfits = omega arith }
+minus_wide (pos (suc n)) f = let m = f.sfits in record { sfits = omega arith }
+minus_wide (negsuc n) f = let m = f.sfits in record { sfits = omega arith }
 
 minus : (z : ℤ) → SFits w32 z → pos 0 -ℤ to_z w64 (of_z w64 (to_z w32 (of_z w32 z))) ≡ neg_ℤ z
 minus z f =
@@ -27,10 +27,10 @@ minus z f =
     ∙ ap (λ (y : ℤ). pos 0 -ℤ y) (to_z-of_z {w = w64} {z = z} (wide z f))
     ∙ +ℤ_idl (neg_ℤ z)
 
-abs-minus : (z : ℤ) → nat_abs (neg_ℤ z) ≡ nat_abs z
-abs-minus (pos zero) = refl
-abs-minus (pos (suc n)) = refl
-abs-minus (negsuc n) = refl
+abs_minus : (z : ℤ) → nat_abs (neg_ℤ z) ≡ nat_abs z
+abs_minus (pos zero) = refl
+abs_minus (pos (suc n)) = refl
+abs_minus (negsuc n) = refl
 
 abbrev Magnitude : ℤ → Type 0
 Magnitude z = T (non_neg z) × Fits w64 (nat_abs z)
@@ -47,13 +47,13 @@ pub overflow_cast-result : goal.overflow_cast-result
 overflow_cast-result c = let f = c.ranges.n in rw (to_z-of_z {w = w32} {z = c.args.n} f) (wide _ f)
 
 pub overflow_sub-result : goal.overflow_sub-result
-overflow_sub-result c = let f = c.ranges.n in rw (minus c.args.n f) (minus-wide _ f)
+overflow_sub-result c = let f = c.ranges.n in rw (minus c.args.n f) (minus_wide _ f)
 
 pub overflow_cast-result-then-n-lt0 : goal.overflow_cast-result-then-n-lt0
 overflow_cast-result-then-n-lt0 c =
     let z = c.args.n in
     let f = c.ranges.n in
-    rw (minus z f, to_z-of_z {w = w64} {z = neg_ℤ z} (minus-wide z f)) (negative z f (below_zero z f c.if-n-lt0.true))
+    rw (minus z f, to_z-of_z {w = w64} {z = neg_ℤ z} (minus_wide z f)) (negative z f (below_zero z f c.if-n-lt0.true))
 
 pub overflow_cast-result-else-n-lt0 : goal.overflow_cast-result-else-n-lt0
 overflow_cast-result-else-n-lt0 c =
@@ -65,7 +65,7 @@ pub returns-then-n-lt0 : goal.returns-then-n-lt0
 returns-then-n-lt0 c =
     let z = c.args.n in
     let f = c.ranges.n in
-    rw (minus z f, to_z-of_z {w = w64} {z = neg_ℤ z} (minus-wide z f)) (abs-minus z)
+    rw (minus z f, to_z-of_z {w = w64} {z = neg_ℤ z} (minus_wide z f)) (abs_minus z)
 
 pub returns-else-n-lt0 : goal.returns-else-n-lt0
 returns-else-n-lt0 c = rw (to_z-of_z {w = w32} {z = c.args.n} c.ranges.n) refl
