@@ -42,14 +42,15 @@ $(PROGRAM): $(LIBRARY) $(shell find rust/Cargo.* rust/avsplus-sys rust/avsplus r
 	$(CARGO) build $(MANIFEST) -p avsplus-cli
 	touch $@
 
-# The shared library, target/lib/libavsplus.so.N: the static one whole. It needs no other library, and would not link if it did.
+# The shared library, target/lib/libavsplus.so.N: the static one whole. It needs no other library but C's own, and would not link if it
+# did.
 shared: $(SHARED)
 
 $(SHARED): $(LIBRARY) include/avsplus.h scripts/exports.map
 	scripts/needs gcc
 	mkdir -p $(@D)
 	gcc -shared -nostdlib -o $@ -Wl,-soname,$(@F) -Wl,--version-script=scripts/exports.map -Wl,-z,defs,-z,text,-z,noexecstack \
-		-Wl,--whole-archive $(LIBRARY) -Wl,--no-whole-archive
+		-Wl,--whole-archive $(LIBRARY) -Wl,--no-whole-archive -lc
 
 # The header, both libraries, what pkg-config says of them, the program and its page, and the rules. All is made before any is put in
 # place.

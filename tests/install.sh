@@ -141,7 +141,8 @@ shared_library() {
     local library=$prefix/lib/libavsplus.so.$interface
     readelf -d "$library" >"$scratch/dynamic"
     equal "the shared library's own name" "libavsplus.so.$interface" "$(sed -n 's/.*(SONAME).*\[\(.*\)\]/\1/p' "$scratch/dynamic")"
-    equal "the shared library needs no other" "" "$(grep '(NEEDED)' "$scratch/dynamic" || true)"
+    equal "the shared library needs no other, but for C's own" "" "$(needed "$library")"
+    equal "of C's own it asks for memset alone" "memset" "$(nm -D --undefined-only "$library" | awk '{ sub(/@.*/, "", $NF); print $NF }')"
     gcc -E -P include/avsplus.h | grep -oE 'avsplus_[a-z0-9_]+\(' | tr -d '(' | sort >"$scratch/wanted"
     nm -D --defined-only "$library" | awk '{ print $NF }' | sort >"$scratch/found"
     same "its $(wc -l <"$scratch/found") names are the functions that the header declares" "$scratch/wanted" "$scratch/found"
