@@ -29,7 +29,7 @@ returns-then-width-eq0 c = let w = c.if-width-eq0.true in let a = c.args in sym 
 -- as many bits are left as it has, so its last is one of the payload's
 module _ (c : Else-width-eq0) where
   fits : c.args.width ≤ 32
-  fits = c.if-width-gt32.false
+  fits = omega (arith, c.if-width-gt32.false)
 
   inside : c.args.place + c.args.width ≤ length (payload c.args.bytes.now c.args.count)
   inside = omega (arith, c.bits_left-left.ensures, c.if-left-width.false, c.if-width-eq0.false)

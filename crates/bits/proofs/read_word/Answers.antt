@@ -19,17 +19,17 @@ returns-then-bits_left-lt32 c =
     let left = c.bits_left.ensures in
     sym (word_few (payload a.bytes.now a.count) a.place (omega arith))
 
--- 32 bits are left, by the count and by the bytes
-within : (c : Else-bits_left-lt32) → let a = c.args in
+-- where 32 bits are left, by the count and by the bytes
+within : (c : Else-bits_left-lt32) → 32 ≤ c.bits_left.result → let a = c.args in
     (32 ≤ length (payload a.bytes.now a.count) - a.place) × (a.place + 32 ≤ a.count) × (a.place + 32 ≤ length a.bytes.now * 8)
-within c =
+within c h =
     let a = c.args in
     let left = c.bits_left.ensures in
     let l = length_payload a.bytes.now a.count in
-    (omega (arith, c.if-bits_left-lt32.false), omega (arith, c.if-bits_left-lt32.false), omega (arith, c.if-bits_left-lt32.false))
+    (omega arith, omega arith, omega arith)
 
 pub number-requires : goal.number-requires
-number-requires c = let w = within c in (omega arith, omega arith, omega arith)
+number-requires c = let w = within c c.if-bits_left-lt32.false in (omega arith, omega arith, omega arith)
 
 -- the bits that are left of the four bytes at place / 8
 of_four : (s : List ℕ) (count place value : ℕ) → place + 32 ≤ count →
@@ -44,7 +44,7 @@ of_four s count place value h e =
 pub returns : goal.returns
 returns c =
     let a = c.args in
-    let (left, count, held) = within (goal.at.returns c).Else-bits_left-lt32 in
+    let (left, count, held) = within (goal.at.returns c).Else-bits_left-lt32 c.if-bits_left-lt32.false in
     let width = 32 - a.place % 8 in
     ap (λ (v : ℕ). Bits v width) c.cut.ensures
     ∙ sym (word_is (payload a.bytes.now a.count) a.place (c.number.result / 2 ^ 0 % 2 ^ width) left (of_four a.bytes.now a.count a.place c.number.result count c.number.ensures))
