@@ -245,8 +245,7 @@ fn file_keeping(stream: &[u8], spans: &mut [u16], rows: &mut [u32]) -> FilingAns
 }
 
 // A stream is filed: its rows are written to the lent words, or it is refused and the words stay. Short streams lend few words for
-// spans, since all are filled before the first is kept. What they are filled with is never read; it is no 0, since the compiler
-// would have memset write zeros, which the library has not.
+// spans, since all are filled before the first is kept. What they are filled with is never read.
 pub fn file(stream: &[u8], rows: &mut [u32]) -> FilingAnswer
     ensures answer { filing_says result ≡ filed stream.now (ListN.length rows.old) }
     ensures words { rows.new ≡ words_after (filing_into stream.now (ListN.length rows.old)) rows.old }
