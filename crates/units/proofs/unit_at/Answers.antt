@@ -1,6 +1,7 @@
 -- The tests in order, and then the unit up to the next prefix.
 use Prim.Native.Nat.{ℕ, ◌+◌, ◌≤◌, ◌<◌}
 use mathlib.Core.Path.{◌≡◌, sym, ap, ◌∙◌}
+use mathlib.Core.Logic.{◌≢◌}
 use mathlib.Core.Bool.{true, false}
 use native.Mathlib.Omega.{arith}
 use lib.ListN.{length, drop}
@@ -15,11 +16,10 @@ use Rattle.units.proofs.unit_at.Goals.{After-prefix_at-2, After-shared_slice_kno
 here : (e : Else-not-prefix_at) → begins (drop e.args.at e.args.stream.now) ≡ true
 here e = sym e.prefix_at.ensures ∙ e.if-not-prefix_at.false
 
-inside : (p : After-prefix_at-2) → p.args.at + 3 < length p.args.stream.now
-inside p =
+inside : (p : After-prefix_at-2) → length p.args.stream.now ≢ p.args.at + 3 → p.args.at + 3 < length p.args.stream.now
+inside p n =
     let a = p.args in
     let f = prefix_fits a.stream.now a.at (sym p.prefix_at.ensures ∙ p.if-not-prefix_at.false) in
-    let n = p.if-stream-code_at.false in
     omega arith
 
 alone : (e : Else-prefix_at) → begins (drop (e.args.at + 3) e.args.stream.now) ≡ false
@@ -27,11 +27,11 @@ alone e = sym e.prefix_at-2.ensures ∙ e.if-prefix_at.false
 
 fits : (c : After-shared_slice_known-2-1) →
     let a = c.args in
+    length a.stream.now ≢ a.at + 3 →
     (a.at + 4 ≤ c.next_prefix-end.result) × (c.next_prefix-end.result ≤ length a.stream.now)
-fits c =
+fits c m =
     let a = c.args in
     let h = sym c.prefix_at.ensures ∙ c.if-not-prefix_at.false in
-    let m = c.if-stream-code_at.false in
     let p = prefix_fits a.stream.now a.at h in
     let f = next_fits a.stream.now a.at h (omega arith) (sym c.prefix_at-2.ensures ∙ c.if-prefix_at.false) in
     let n = c.next_prefix-end.ensures in
@@ -50,19 +50,19 @@ pub returns-then-prefix_at : goal.returns-then-prefix_at
 returns-then-prefix_at c = let a = c.args in unit_overlap a.stream.now a.state a.at (here (goal.at.returns-then-prefix_at c).Else-not-prefix_at) (sym c.prefix_at-2.ensures ∙ c.if-prefix_at.true)
 
 pub bounds-stream-code_at : goal.bounds-stream-code_at
-bounds-stream-code_at c = inside (goal.at.bounds-stream-code_at c).After-prefix_at-2
+bounds-stream-code_at c = inside (goal.at.bounds-stream-code_at c).After-prefix_at-2 c.if-stream-code_at.false
 
 pub overflow_add-from : goal.overflow_add-from
-overflow_add-from c = let i = inside (goal.at.overflow_add-from c).After-prefix_at-2 in omega arith
+overflow_add-from c = let i = inside (goal.at.overflow_add-from c).After-prefix_at-2 c.if-stream-code_at.false in omega arith
 
 pub slice_bounds-unit_of-count : goal.slice_bounds-unit_of-count
-slice_bounds-unit_of-count c = let f = fits c in omega (arith, f.0)
+slice_bounds-unit_of-count c = let f = fits c c.if-stream-code_at.false in omega (arith, f.0)
 
 pub slice_bounds-unit_of-start : goal.slice_bounds-unit_of-start
-slice_bounds-unit_of-start c = let f = fits c in omega (arith, f.0, f.1)
+slice_bounds-unit_of-start c = let f = fits c c.if-stream-code_at.false in omega (arith, f.0, f.1)
 
 pub slice_bounds-unit_of-end : goal.slice_bounds-unit_of-end
-slice_bounds-unit_of-end c = let f = fits c in omega (arith, f.0, f.1)
+slice_bounds-unit_of-end c = let f = fits c c.if-stream-code_at.false in omega (arith, f.0, f.1)
 
 pub returns : goal.returns
-returns c = let a = c.args in c.unit_of.ensures ∙ ap (λ (n : ℕ). unit_from a.state (unit_between a.stream.now a.at n) n) c.next_prefix-end.ensures ∙ unit_is a.stream.now a.state a.at (here (goal.at.returns c).Else-not-prefix_at) (inside (goal.at.returns c).After-prefix_at-2) (alone (goal.at.returns c).Else-prefix_at)
+returns c = let a = c.args in c.unit_of.ensures ∙ ap (λ (n : ℕ). unit_from a.state (unit_between a.stream.now a.at n) n) c.next_prefix-end.ensures ∙ unit_is a.stream.now a.state a.at (here (goal.at.returns c).Else-not-prefix_at) (inside (goal.at.returns c).After-prefix_at-2 c.if-stream-code_at.false) (alone (goal.at.returns c).Else-prefix_at)
