@@ -1,7 +1,6 @@
 -- Half of a number below 2^32 - 1 is below 2^31, so neither sign overflows.
 use Prim.Native.Nat.{ℕ, zero, suc, ◌+◌, ◌/◌, ◌%◌, ◌<◌}
-use mathlib.Core.Path.{◌≡◌, sym, ap, ◌∙◌}
-use mathlib.Core.Bool.{cond}
+use mathlib.Core.Path.{◌≡◌, ap, ◌∙◌}
 use native.Mathlib.Omega.{arith}
 use borrow.Author.Tests.{eq-eqb, ne_eqb}
 use lib.IntN.{ℤ, pos, neg_ℤ, ◌-ℤ◌, +ℤ_idl}
@@ -28,8 +27,7 @@ overflow_sub-result c = let h = half_small c in rw (minus (c.args.n / 2) h) (min
 pub returns-then-n-eq1 : goal.returns-then-n-eq1
 unfolding stands_for
 returns-then-n-eq1 c =
-    let n = c.args.n in
-    to_z_pos w32 {n = (n + 1) / 2} (omega arith) ∙ ap (λ t. cond t (pos ((n + 1) / 2)) (neg_ℤ (pos (n / 2)))) (sym (eq-eqb (n % 2) 1 c.if-n-eq1.true))
+    to_z_pos w32 {n = (c.args.n + 1) / 2} (omega arith) ∙ simp (eq-eqb (c.args.n % 2) 1 c.if-n-eq1.true)
 
 pub returns-else-n-eq1 : goal.returns-else-n-eq1
 unfolding stands_for
