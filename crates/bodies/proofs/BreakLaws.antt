@@ -10,7 +10,7 @@ use borrow.Author.Tests.{eqb-true, eqb-false, ltb-true, lt-ltb}
 use lib.Dec.{eqb}
 use lib.ListN.{length}
 use Rattle.answers.proofs.ResultLaws.{not_bad}
-use Rattle.answers.specs.Answers.{Carried, refused, SHORT}
+use Rattle.answers.specs.Answers.{Carried, refused, SHORT, VALUE}
 use Rattle.bits.specs.Bits.{bits_of, bit_at, read_on, read_at}
 use Rattle.bits.specs.declared.Bit.{Bit}
 use Rattle.bits.specs.declared.Bit.TheVariants as bit
@@ -197,6 +197,14 @@ value_over Matrix = omega arith
 value_over Stereo = omega arith
 value_over CopyrightOwner = omega arith
 value_over CopyrightNumber = omega arith
+
+-- a fault's number is neither FILED's nor VALUE's
+pub fault_apart : (why : Fault) → (1 ≤ fault_number why) × (fault_number why ≢ VALUE)
+unfolding fault_number
+fault_apart Short = (omega arith, λ e. omega arith)
+fault_apart (Marker at) = (omega arith, λ e. omega arith)
+fault_apart (fault.Value field at) = let h = value_over field in (omega arith, λ e. omega arith)
+fault_apart Stuffing = (omega arith, λ e. omega arith)
 
 -- the number of SHORT is that of no other fault
 short_number : (why : Fault) → fault_number why ≡ SHORT → why ≡ Short

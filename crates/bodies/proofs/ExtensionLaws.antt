@@ -8,7 +8,7 @@ use mathlib.Core.Option.{Option, none, some}
 use native.Mathlib.Omega.{arith}
 use borrow.Author.Tests.{eqb-true, eqb-false, ne_eqb, le-ltb}
 use lib.Dec.{eqb}
-use lib.ListN.{length, get_or, take, drop}
+use lib.ListN.{length, get_or, get_elem?, take, drop}
 use Rattle.answers.specs.Answers.{Carried, done, refused}
 use Rattle.bits.specs.Bits.{bits_of, bit_at, read_on, read_at}
 use Rattle.bits.specs.declared.Bit.{Bit}
@@ -35,7 +35,7 @@ use Rattle.bodies.specs.declared.Scope.TheVariants.{Head, Picture}
 use Rattle.bodies.specs.declared.SequenceHeader.{SequenceHeader}
 use Rattle.bodies.specs.declared.DisplayExtension.{DisplayExtension}
 use Rattle.bodies.specs.declared.CopyrightExtension.{CopyrightExtension}
-use Rattle.layout.proofs.LayoutLaws.{fits_length, spelled}
+use Rattle.layout.proofs.LayoutLaws.{fits_length, spell, spelled}
 use Rattle.bodies.proofs.NumberLaws.{number_iff, number_one}
 use Rattle.layout.proofs.ReadingLaws.{value_good}
 use Rattle.layout.proofs.ObeyLaws.{obeys_if, if_obeys}
@@ -275,6 +275,28 @@ coloured_fixed body vs end h n c = (
 pub copyright_fixed : (body vs end : List ℕ) → Holds Copyright body vs end → HasNumber body 4 → get_or vs 0 0 ≡ 4
 unfolding fields
 copyright_fixed body vs end h n = number_one body (get_or vs 0 0) 4 ((number_iff body _).0 (held_field Copyright body vs end h 0 (omega arith))) n
+
+-- the same of values that are there
+there : (n : ℕ) (vs : List ℕ) (i v : ℕ) → length vs ≡ n → get_elem? (spell n 0 vs) i ≡ some (get_or vs i 0) → get_or vs i 0 ≡ v → get_elem? vs i ≡ some v
+there n vs i v l e f = ap (λ (l : List ℕ). get_elem? l i) (spelled n vs l) ∙ e ∙ ap some f
+
+pub display_there : (body vs end : List ℕ) → Holds Display body vs end → HasNumber body 2 → ColourGiven body 0 → (get_elem? vs 0 ≡ some 2) × (get_elem? vs 3 ≡ some 0)
+unfolding fields
+display_there body vs end h n c =
+    let l = fits_length (fields Display) vs h.fits in
+    let f = display_fixed body vs end h n c in
+    (there 8 vs 0 2 l refl f.0, there 8 vs 3 0 l refl f.1)
+
+pub coloured_there : (body vs end : List ℕ) → Holds Coloured body vs end → HasNumber body 2 → ColourGiven body 1 → (get_elem? vs 0 ≡ some 2) × (get_elem? vs 3 ≡ some 1)
+unfolding fields
+coloured_there body vs end h n c =
+    let l = fits_length (fields Coloured) vs h.fits in
+    let f = coloured_fixed body vs end h n c in
+    (there 11 vs 0 2 l refl f.0, there 11 vs 3 1 l refl f.1)
+
+pub copyright_there : (body vs end : List ℕ) → Holds Copyright body vs end → HasNumber body 4 → get_elem? vs 0 ≡ some 4
+unfolding fields
+copyright_there body vs end h n = there 11 vs 0 4 (fits_length (fields Copyright) vs h.fits) refl (copyright_fixed body vs end h n)
 
 -- ── what is answered ──
 

@@ -1,14 +1,17 @@
 -- What is proved of bodies beyond the contracts of the functions.
-use Prim.Native.Nat.{ℕ, ◌<◌}
+use Prim.Native.Nat.{ℕ, ◌/◌, ◌%◌, ◌<◌}
 use mathlib.Core.Path.{◌≡◌, sym, ap}
 use mathlib.Core.Logic.{◌↔◌, ◌≢◌}
-use mathlib.Core.List.{List, [], ◌∷◌}
+use mathlib.Core.List.{List, [], ◌∷◌, ◌++◌}
 use mathlib.Core.Bool.{true}
-use lib.ListN.{get_or}
-use Rattle.answers.specs.Answers.{Carried, at_bit, done, refused, OneToOne, SHORT}
-use Rattle.bits.specs.Bits.{bits_of, bit_at}
+use mathlib.Core.Option.{some}
+use native.Mathlib.Omega.{arith}
+use lib.ListN.{get_or, get_elem?}
+use Rattle.answers.specs.Answers.{Carried, at_bit, done, refused, OneToOne, SHORT, VALUE}
+use Rattle.bits.specs.Bits.{bits_in, bits_of, bit_at}
 use Rattle.bits.specs.declared.Bit.TheVariants.{Is}
-use Rattle.bodies.specs.Extensions.{HasNumber, is_opaque}
+use Rattle.bodies.specs.Extensions.{HasNumber, ColourGiven, is_opaque}
+use Rattle.bodies.specs.Records.{bit_rate}
 use Rattle.bodies.specs.Bodies.{HeaderBody, DisplayBody, CopyrightBody}
 use Rattle.layout.specs.Breaks.{Holds, Breaks}
 use Rattle.bodies.specs.Breaks.{ShortDisplay, BreaksExtension}
@@ -23,6 +26,7 @@ use Rattle.bodies.specs.declared.CopyrightExtension.{CopyrightExtension}
 use Rattle.bodies.specs.declared.Scope.{Scope}
 use Rattle.bodies.specs.declared.Scope.TheVariants.{Head}
 use Rattle.bodies.proofs.NumberLaws.{opaque_test}
+use Rattle.bodies.proofs.NumberLaws as numbers
 use Rattle.bodies.proofs.BreakLaws as breaks
 use Rattle.bodies.proofs.PlaceLaws as places
 use Rattle.bodies.proofs.ExtensionLaws as laws
@@ -38,6 +42,10 @@ answered_iff r a = (laws.answer_done r a, ap answer_of)
 -- The record is that of the body's values, and is answered exactly where the body obeys.
 pub header_iff : (body : List ℕ) (h : SequenceHeader) → (header_of body ≡ done h) ↔ HeaderBody body h
 header_iff body h = (laws.header_if body h, laws.if_header body h)
+
+-- A bit rate has these parts exactly where it is high × 262,144 + low, of a low part that fits its field.
+pub rate_parts : (n high low : ℕ) → low < 262144 → (n ≡ bit_rate high low) ↔ ((high ≡ n / 262144) × (low ≡ n % 262144))
+rate_parts n high low h = ((λ e. (omega arith, omega arith)), λ e. omega arith)
 
 -- Reading finds the body faulty exactly for what breaks the layout, field and bit with it.
 pub header_faulty_iff : (body : List ℕ) (why : Fault) → (header_result body ≡ bad why) ↔ Breaks Header body why
@@ -62,6 +70,10 @@ display_iff scope body d = (laws.answers_display scope body d, laws.display_answ
 -- A copyright record is answered anywhere, exactly for the bodies of copyright extensions.
 pub copyright_iff : (scope : Scope) (body : List ℕ) (c : CopyrightExtension) → (extension_of scope body ≡ done (copyright c)) ↔ CopyrightBody body c
 copyright_iff scope body c = (laws.answers_copyright scope body c, laws.copyright_answers scope body c)
+
+-- An extension's number is its body's first four bits.
+pub number_iff : (body : List ℕ) (n : ℕ) → HasNumber body n ↔ ((n < 16) × ((rest : List ℕ) × (bits_of body ≡ bits_in 4 n ++ rest)))
+number_iff = numbers.bits_iff
 
 -- Any other number, and number 2 after a picture header, is answered alone.
 pub opaque_iff : (scope : Scope) (body : List ℕ) (n : ℕ) → (extension_of scope body ≡ done (opaque n)) ↔ (HasNumber body n × (n ≢ 4) × (scope ≡ Head → n ≢ 2))
@@ -103,6 +115,22 @@ coloured_fixed = laws.coloured_fixed
 
 pub copyright_fixed : (body vs end : List ℕ) → Holds Copyright body vs end → HasNumber body 4 → get_or vs 0 0 ≡ 4
 copyright_fixed = laws.copyright_fixed
+
+-- The same of values that are there.
+pub display_there : (body vs end : List ℕ) → Holds Display body vs end → HasNumber body 2 → ColourGiven body 0 → (get_elem? vs 0 ≡ some 2) × (get_elem? vs 3 ≡ some 0)
+display_there = laws.display_there
+
+pub coloured_there : (body vs end : List ℕ) → Holds Coloured body vs end → HasNumber body 2 → ColourGiven body 1 → (get_elem? vs 0 ≡ some 2) × (get_elem? vs 3 ≡ some 1)
+coloured_there = laws.coloured_there
+
+pub copyright_there : (body vs end : List ℕ) → Holds Copyright body vs end → HasNumber body 4 → get_elem? vs 0 ≡ some 4
+copyright_there = laws.copyright_there
+
+-- ── numbers ──
+
+-- "The old number 8 stays for Exp-Golomb only": no fault has it.
+pub no_value : (why : Fault) → fault_number why ≢ VALUE
+no_value why = (breaks.fault_apart why).1
 
 -- ── no two answers say the same ──
 

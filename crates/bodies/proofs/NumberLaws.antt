@@ -2,13 +2,13 @@
 use Prim.Native.Nat.{ℕ, ◌<◌}
 use mathlib.Core.Path.{◌≡◌, refl, sym, ap, ◌∙◌}
 use mathlib.Core.Logic.{◌≢◌, ◌↔◌}
-use mathlib.Core.List.{List, [], ◌∷◌}
+use mathlib.Core.List.{List, [], ◌∷◌, ◌++◌}
 use mathlib.Core.Bool.{Bool, true, false, ◌&&◌, not}
 use native.Mathlib.Omega.{arith}
 use borrow.Author.Tests.{eqb-true, eqb-false, eq-eqb, ne_eqb, not-true}
 use lib.Dec.{eqb}
-use lib.ListN.{length, take}
-use lib.Seq.{take-length}
+use lib.ListN.{length, take, drop, take-append-drop}
+use lib.Seq.{take-length, take_at}
 use Rattle.bits.specs.Bits.{bits_in, bits_of, payload, read_on, read_at}
 use Rattle.answers.specs.Results.{Result, good, bad}
 use Rattle.answers.proofs.ResultLaws.{good_same}
@@ -41,6 +41,15 @@ numbered_iff n body =
       (λ e. ap (λ (k : ℕ). take k (bits_of body)) (sym w) ∙ starts_take (bits_in 4 n) (bits_of body) e),
       λ e. take_starts (bits_in 4 n) (bits_of body) (ap (λ (k : ℕ). take k (bits_of body)) w ∙ e),
     )
+
+-- the number is the one whose four bits the body begins with
+pub bits_iff : (body : List ℕ) (n : ℕ) → HasNumber body n ↔ ((n < 16) × ((rest : List ℕ) × (bits_of body ≡ bits_in 4 n ++ rest)))
+bits_iff body n = (
+  (λ h.
+      let e = (numbered_iff n body).0 h.bits in
+      (h.small, (drop 4 (bits_of body), sym (take-append-drop 4 (bits_of body)) ∙ ap (λ (l : List ℕ). l ++ drop 4 (bits_of body)) e))),
+  λ (k, (rest, e)). record { small = k; bits = (numbered_iff n body).1 (ap (take 4) e ∙ take_at (bits_in 4 n) rest 4 (length_in 4 n)) },
+)
 
 -- the read's number is the body's
 pub number_iff : (body : List ℕ) (n : ℕ) → (number_of body ≡ good n) ↔ HasNumber body n

@@ -28,10 +28,11 @@ use Rattle.grammar.specs.declared.Reason.{Reason}
 use Rattle.grammar.specs.declared.Reason.TheVariants as reason
 use Rattle.grammar.proofs.ReasonLaws.{refuses_fair}
 use Rattle.grammar.proofs.Filing.{walked_iff, said_done}
+use Rattle.grammar.proofs.LentLaws as grammar_lent
 use Rattle.grammar.proofs.Refusals.{said_refused, said_iff, stopped_iff, into_stopped_iff}
 use Rattle.grammar.proofs.RowLaws.{rows_length, units_length}
 use Rattle.grammar.proofs.Unique.{same_reading}
-use Rattle.filing.specs.Filing.{totals, words_after, filing_says, checked_says, ReadingOf, FiledByReading}
+use Rattle.filing.specs.Filing.{totals, words_after, filing_says, checked_says, ReadingOf, FiledByReading, ByReading}
 use Rattle.filing.specs.Reader.{filed}
 use Rattle.filing.specs.Inside.{checked_gives}
 use Rattle.filing.specs.declared.Checked.{Checked}
@@ -66,19 +67,10 @@ module _ (s : List ℕ) (lent : ℕ) where
   into_full ms e k = ap (within lent) e ∙ rw (lt-ltb lent (3 * length ms) k)
 
   pub into_good : (ms : List Placed) → walk s ≡ good ms → 3 * length ms ≤ lent → walk_into s lent ≡ good ms
-  unfolding walk_into
-  into_good ms e k = ap (within lent) e ∙ rw (le-ltb lent (3 * length ms) k)
-
-within_good : (lent : ℕ) (w : Walk) (ms : List Placed) → within lent w ≡ good ms → (w ≡ good ms) × (3 * length ms ≤ lent)
-within_good lent (good ns) ms e =
-    by_test (ltb lent (3 * length ns))
-    (λ t. not_good (rw t at e))
-    (λ f. let i : ns ≡ ms = good_same (rw f at e) in let k = ltb-false lent (3 * length ns) f in (ap good i, rw i at k))
-within_good lent (bad x) ms e = not_good e
+  into_good = grammar_lent.into_good s lent
 
 good_into : (s : List ℕ) (lent : ℕ) (ms : List Placed) → walk_into s lent ≡ good ms → (walk s ≡ good ms) × (3 * length ms ≤ lent)
-unfolding walk_into
-good_into s lent ms e = within_good lent (walk s) ms e
+good_into = grammar_lent.good_into
 
 -- ── what the first pass says ──
 
@@ -161,73 +153,96 @@ checked_one_to_one = undone checked_says back is
 
 -- ── demand 3 ──
 
-abbrev full_answer : FilingAnswer
-full_answer = answer.Refused (record { reason = reason.Full; offset = 0 })
-
-module _ (s lent after : List ℕ) (r : FilingAnswer) (says : filing_says r ≡ filed s (length lent)) (words_are : after ≡ words_after (filing_into s (length lent)) lent) where
+-- of the outcome
+module _ (s : List ℕ) (lent : ℕ) where
   -- the units of a reading are those that the walk finds
   read_walked : (x : Reading) → length s ≤ longest_stream → Reads s x → walk s ≡ good (placed_units x)
   read_walked x h k = (walked_iff s (placed_units x)).1 (h, (x, k, refl))
 
-  says_filed : (n : ℕ) → r ≡ answer.Filed (record { units = n }) → (ms : List Placed) × (walk_into s (length lent) ≡ good ms) × (length ms ≡ n)
+  filed_if : (n : ℕ) → filed s lent ≡ done (record { units = n }) → (length s ≤ longest_stream) × ReadingOf s n × (3 * n ≤ lent)
   unfolding filed
-  says_filed n e =
-      let d = said_done totals (walk_into s (length lent)) (record { units = n }) (sym says ∙ ap filing_says e) in
-      (d.0, d.1, ap (λ (t : Totals). t.units) d.2)
+  filed_if n e =
+      let (ms, w, t) = said_done totals (walk_into s lent) (record { units = n }) e in
+      let (g, room) = good_into s lent ms w in
+      let (short, (x, k, same)) = (walked_iff s ms).0 g in
+      let c : length ms ≡ n = ap (λ (t : Totals). t.units) t in
+      (short, (x, k, sym (units_length x) ∙ ap length (sym same) ∙ c), omega arith)
 
-  of_filed : (n : ℕ) → r ≡ answer.Filed (record { units = n }) → (length s ≤ longest_stream) × ReadingOf s n × (3 * n ≤ length lent)
-  of_filed n e =
-      let t = says_filed n e in
-      let f = good_into s (length lent) t.0 t.1 in
-      let k = (walked_iff s t.0).0 f.0 in
-      let m : length (units k.1.0) ≡ n = sym (units_length k.1.0) ∙ ap length (sym k.1.2) ∙ t.2 in
-      let c = t.2 in
-      (k.0, (k.1.0, k.1.1, m), omega (arith, f.1))
-
-  to_filed : (n : ℕ) → (length s ≤ longest_stream) × ReadingOf s n × (3 * n ≤ length lent) → r ≡ answer.Filed (record { units = n })
+  if_filed : (n : ℕ) → (length s ≤ longest_stream) × ReadingOf s n × (3 * n ≤ lent) → filed s lent ≡ done (record { units = n })
   unfolding filed
-  to_filed n h =
-      let x = h.1.0 in
-      let c : length (placed_units x) ≡ n = units_length x ∙ h.1.2 in
-      let e = into_good s (length lent) (placed_units x) (read_walked x h.0 h.1.1) (omega (arith, h.2)) in
-      filing_one_to_one r (answer.Filed (record { units = n })) (says ∙ ap (said totals) e ∙ ap (λ (m : ℕ). done (record { units = m })) c)
+  if_filed n (short, (x, k, is), room) =
+      let c : length (placed_units x) ≡ n = units_length x ∙ is in
+      ap (said totals) (into_good s lent (placed_units x) (read_walked x short k) (omega arith)) ∙ ap (λ (m : ℕ). done (record { units = m })) c
 
-  of_full : r ≡ full_answer → (length s ≤ longest_stream) × ((n : ℕ) × ReadingOf s n × (length lent < 3 * n))
+  pub totals_iff : (n : ℕ) → (filed s lent ≡ done (record { units = n })) ↔ ((length s ≤ longest_stream) × ReadingOf s n × (3 * n ≤ lent))
+  totals_iff n = (filed_if n, if_filed n)
+
+  abbrev Fewer : Type 0
+  Fewer = (length s ≤ longest_stream) × ((n : ℕ) × ReadingOf s n × (lent < 3 * n))
+
+  full_if : (carried : List Carried) → filed s lent ≡ refused FULL carried → Fewer
   unfolding filed
-  of_full e =
-      let k = (said_iff totals (walk_into s (length lent)) (RefusesInto s (length lent)) (into_stopped_iff s (length lent)) FULL (at_offset 0 ∷ [])).0 (sym says ∙ ap filing_says e) in
-      by_cause k.0 k.1 k.2 k.3
+  full_if carried e =
+      let (why, at, k, n, c) = (said_iff totals (walk_into s lent) (RefusesInto s lent) (into_stopped_iff s lent) FULL carried).0 e in
+      by_cause why at k n
     where
-      by_cause : (why : Reason) (at : ℕ) → RefusesInto s (length lent) why at → FULL ≡ reason_number why → (length s ≤ longest_stream) × ((n : ℕ) × ReadingOf s n × (length lent < 3 * n))
+      by_cause : (why : Reason) (at : ℕ) → RefusesInto s lent why at → FULL ≡ reason_number why → Fewer
       by_cause why at (refuses k) n = absurd ((refuses_fair k).0 (sym n))
       by_cause why at (full l x k b w p) n = (l, (length (units x), (x, k, refl), b))
 
-  to_full : (length s ≤ longest_stream) × ((n : ℕ) × ReadingOf s n × (length lent < 3 * n)) → r ≡ full_answer
+  if_full : Fewer → filed s lent ≡ refused FULL (at_offset 0 ∷ [])
   unfolding filed
-  to_full h =
-      let x = h.1.1.0 in
-      let c : length (units x) ≡ h.1.0 = h.1.1.2 in
-      let e = (into_stopped_iff s (length lent) reason.Full 0).1 (full h.0 x h.1.1.1 (omega (arith, h.1.2)) refl refl) in
-      filing_one_to_one r full_answer (says ∙ ap (said totals) e)
+  if_full (short, (n, (x, k, c), fewer)) = ap (said totals) ((into_stopped_iff s lent reason.Full 0).1 (full short x k (omega arith) refl refl))
 
-  of_rows : (n : ℕ) → r ≡ answer.Filed (record { units = n }) → (x : Reading) → Reads s x → after ≡ words (rows x) ++ drop (3 * n) lent
+-- and of the words after
+module _ (s lent after : List ℕ) (words_are : after ≡ words_after (filing_into s (length lent)) lent) where
+  rows_are : (n : ℕ) → filed s (length lent) ≡ done (record { units = n }) → (x : Reading) → Reads s x → after ≡ words (rows x) ++ drop (3 * n) lent
   unfolding filing_into
-  of_rows n e x h =
-      let k = of_filed n e in
-      let same = same_reading s x k.1.0 h k.1.1 in
-      let u : length (placed_units x) ≡ n = units_length x ∙ ap (λ (y : Reading). length (units y)) same ∙ k.1.2 in
+  rows_are n e x h =
+      let (short, (y, k, is), room) = filed_if s (length lent) n e in
+      let same = same_reading s x y h k in
+      let u : length (placed_units x) ≡ n = units_length x ∙ ap (λ (y : Reading). length (units y)) same ∙ is in
       let c : length (rows x) ≡ n = rows_length 0 (placed_units x) ∙ u in
-      let i = into_good s (length lent) (placed_units x) (read_walked x k.0 h) (omega (arith, k.2)) in
+      let i = into_good s (length lent) (placed_units x) (read_walked s (length lent) x short h) (omega arith) in
       words_are ∙ ap (λ (w : Walk). words_after (said (rows_from 0) w) lent) i ∙ ap (λ (m : ℕ). words (rows x) ++ drop (3 * m) lent) c
 
-  of_kept : (why : Refusal) → r ≡ answer.Refused why → after ≡ lent
+  kept_are : (n : ℕ) (carried : List Carried) → filed s (length lent) ≡ refused n carried → after ≡ lent
   unfolding filed filing_into
-  of_kept why e =
-      let k = said_refused totals (walk_into s (length lent)) _ _ (sym says ∙ ap filing_says e) in
-      words_are ∙ ap (λ (w : Walk). words_after (said (rows_from 0) w) lent) k.1
+  kept_are n carried e = words_are ∙ ap (λ (w : Walk). words_after (said (rows_from 0) w) lent) (said_refused totals (walk_into s (length lent)) n carried e).1
 
-  pub demand : FiledByReading s lent after r
-  demand = record { filed = λ n. (of_filed n, to_filed n); full = (of_full, to_full); rows = of_rows; kept = of_kept; one = same_reading s }
+  -- an answer that says the outcome keeps demand 3
+  module _ (IsFiled : ℕ → Type 0) (IsFull IsRefused : Type 0) (is_filed : (n : ℕ) → IsFiled n ↔ (filed s (length lent) ≡ done (record { units = n })))
+      (is_full : IsFull → (carried : List Carried) × (filed s (length lent) ≡ refused FULL carried)) (if_is_full : filed s (length lent) ≡ refused FULL (at_offset 0 ∷ []) → IsFull)
+      (is_refused : IsRefused → (n : ℕ) × (carried : List Carried) × (filed s (length lent) ≡ refused n carried)) where
+    pub by_reading : ByReading s lent after IsFiled IsFull IsRefused
+    by_reading = record {
+      filed = λ n. ((λ i. filed_if s (length lent) n ((is_filed n).0 i)), λ h. (is_filed n).1 (if_filed s (length lent) n h));
+      full = ((λ i. let (carried, e) = is_full i in full_if s (length lent) carried e), λ h. if_is_full (if_full s (length lent) h));
+      rows = λ n i x h. rows_are n ((is_filed n).0 i) x h;
+      kept = λ i. let (n, carried, e) = is_refused i in kept_are n carried e;
+      one = same_reading s;
+    }
+
+abbrev full_answer : FilingAnswer
+full_answer = answer.Refused (record { reason = reason.Full; offset = 0 })
+
+-- `file`'s own answer says it in this way
+pub filed_by_iff : (s lent after : List ℕ) (r : FilingAnswer) →
+    FiledByReading s lent after r
+    ↔ ByReading s lent after (λ n. r ≡ answer.Filed (record { units = n })) (r ≡ answer.Refused (record { reason = reason.Full; offset = 0 })) ((why : Refusal) × (r ≡ answer.Refused why))
+filed_by_iff s lent after r = (
+  (λ f. record { filed = f.filed; full = f.full; rows = f.rows; kept = λ (why, e). f.kept why e; one = f.one }),
+  λ b. record { filed = b.filed; full = b.full; rows = b.rows; kept = λ why e. b.kept (why, e); one = b.one },
+)
+
+pub demand : (s lent after : List ℕ) (r : FilingAnswer) → filing_says r ≡ filed s (length lent) → after ≡ words_after (filing_into s (length lent)) lent → FiledByReading s lent after r
+demand s lent after r says words_are =
+    (filed_by_iff s lent after r).1
+    (by_reading s lent after words_are _ _ _
+    (λ n. ((λ e. sym says ∙ ap filing_says e), λ e. filing_one_to_one r (answer.Filed (record { units = n })) (says ∙ e)))
+    (λ e. (at_offset 0 ∷ [], sym says ∙ ap filing_says e))
+    (λ e. filing_one_to_one r full_answer (says ∙ e))
+    (λ (why, e). (reason_number why.reason, carries why.reason why.offset, sym says ∙ ap filing_says e)))
 
 -- ── refusals ──
 

@@ -1,5 +1,5 @@
 -- What is proved of filing beyond the contracts of the functions.
-use Prim.Native.Nat.{ℕ, ◌≤◌}
+use Prim.Native.Nat.{ℕ, ◌*◌, ◌≤◌}
 use mathlib.Core.Path.{◌≡◌}
 use mathlib.Core.List.{List}
 use mathlib.Core.Logic.{◌↔◌}
@@ -7,9 +7,10 @@ use lib.ListN.{length}
 use Rattle.answers.specs.Answers.{Carried, done, refused, OneToOne}
 use Rattle.answers.specs.Limits.{longest_stream}
 use Rattle.grammar.specs.Reasons.{reason_number, carries, ByNumber}
+use Rattle.grammar.specs.declared.Reason.TheVariants as reason
 use Rattle.grammar.specs.Refusals.{Refuses, RefusesInto}
 use Rattle.grammar.specs.Reader.{walk, said}
-use Rattle.filing.specs.Filing.{filing_says, checked_says, ReadingOf}
+use Rattle.filing.specs.Filing.{filing_says, checked_says, ReadingOf, FiledByReading, ByReading}
 use Rattle.filing.specs.Reader.{filed}
 use Rattle.filing.specs.declared.FilingAnswer.{FilingAnswer}
 use Rattle.filing.specs.declared.FilingAnswer.TheVariants as answer
@@ -27,6 +28,17 @@ checked_one_to_one = demand.checked_one_to_one
 pub refused_by : (stream : List ℕ) (lent : ℕ) (r : FilingAnswer) → filing_says r ≡ filed stream lent →
     (why : Refusal) → (r ≡ answer.Refused why) ↔ ByNumber (RefusesInto stream lent) (reason_number why.reason) (carries why.reason why.offset)
 refused_by = demand.refused_by
+
+-- Its totals are done exactly where there is a reading of so many units and room for its rows.
+pub totals_iff : (stream : List ℕ) (lent n : ℕ) →
+    (filed stream lent ≡ done (record { units = n })) ↔ ((length stream ≤ longest_stream) × ReadingOf stream n × (3 * n ≤ lent))
+totals_iff = demand.totals_iff
+
+-- What `file` says of readings is what any answer says of them that has FILED, FULL and a refusal as its cases.
+pub filed_by_iff : (stream lent after : List ℕ) (r : FilingAnswer) →
+    FiledByReading stream lent after r
+    ↔ ByReading stream lent after (λ n. r ≡ answer.Filed (record { units = n })) (r ≡ answer.Refused (record { reason = reason.Full; offset = 0 })) ((why : Refusal) × (r ≡ answer.Refused why))
+filed_by_iff = demand.filed_by_iff
 
 -- `check` answers n units exactly where the stream is within the limit and has a reading of n units, and refuses it exactly where the
 -- papers do, rows aside.

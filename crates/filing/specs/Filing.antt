@@ -50,3 +50,11 @@ pub record FiledByReading (stream lent after : List ℕ) (r : FilingAnswer) : Ty
   pub kept : (why : Refusal) → r ≡ answer.Refused why → after ≡ lent
   -- any two readings are equal
   pub one : (x y : Reading) → Reads stream x → Reads stream y → x ≡ y
+
+-- The same of any answer: by how it says FILED with n units, FULL, and that it refuses.
+pub record ByReading (stream lent after : List ℕ) (IsFiled : ℕ → Type 0) (IsFull IsRefused : Type 0) : Type 0 where
+  pub filed : (n : ℕ) → IsFiled n ↔ ((length stream ≤ longest_stream) × ReadingOf stream n × (3 * n ≤ length lent))
+  pub full : IsFull ↔ ((length stream ≤ longest_stream) × ((n : ℕ) × ReadingOf stream n × (length lent < 3 * n)))
+  pub rows : (n : ℕ) → IsFiled n → (x : Reading) → Reads stream x → after ≡ words (rows_of x) ++ drop (3 * n) lent
+  pub kept : IsRefused → after ≡ lent
+  pub one : (x y : Reading) → Reads stream x → Reads stream y → x ≡ y

@@ -9,6 +9,7 @@ pub mod BodyLaws
 pub mod StepLaws
 pub mod Filing
 pub mod RowLaws
+pub mod LentLaws
 pub mod WalkLaws
 pub mod Sentences
 pub mod ShapeLaws

@@ -1,11 +1,11 @@
 -- What holds of every reason for which a stream is refused, whatever is lent: it is not FULL, and a bit that it carries is one of a
 -- layout's bits.
-use Prim.Native.Nat.{ℕ, ◌<◌}
+use Prim.Native.Nat.{ℕ, ◌≤◌, ◌<◌}
 use mathlib.Core.Path.{◌≡◌, refl, sym, subst}
 use mathlib.Core.Logic.{◌≢◌, ◌⊎◌, inl, inr, ⊎_elim, ◌↔◌}
 use mathlib.Core.List.{List, [], ◌∷◌}
 use native.Mathlib.Omega.{arith}
-use Rattle.answers.specs.Answers.{at_bit, FULL}
+use Rattle.answers.specs.Answers.{at_bit, VALUE, FULL}
 use Rattle.startcode.specs.declared.Kind.{Kind}
 use Rattle.startcode.specs.declared.Kind.TheVariants as kind
 use Rattle.layout.specs.declared.Fault.{Fault}
@@ -13,7 +13,7 @@ use Rattle.layout.specs.declared.Fault.TheVariants as fault
 use Rattle.layout.specs.declared.Layout.TheVariants.{Header}
 use Rattle.bodies.specs.Answers.{fault_number, fault_bit}
 use Rattle.bodies.specs.declared.Scope.TheVariants as scope
-use Rattle.bodies.proofs.BreakLaws.{value_over}
+use Rattle.bodies.proofs.BreakLaws.{value_over, fault_apart}
 use Rattle.bodies.proofs.PlaceLaws.{BitInside, bitless_inside, layout_inside, display_inside, extension_inside}
 use Rattle.grammar.specs.Grammar.{StreamUnit}
 use Rattle.grammar.specs.Reasons.{reason_number, reason_bit, BitNumber}
@@ -98,6 +98,22 @@ refuses_fair (in_unit l h t) = stops_fair t.stops
 -- FULL carries no bit
 pub full_fair : (why : Reason) → why ≡ reason.Full → BitSmall why
 full_fair why e = subst BitSmall (sym e) (λ b f. let z : ◌≡◌ {A = ℕ} 0 1 = cc in absurd (omega arith))
+
+-- ── which numbers they have ──
+
+pub reason_apart : (why : Reason) → (1 ≤ reason_number why) × (reason_number why ≢ VALUE)
+reason_apart reason.NoCode = (omega arith, λ e. omega arith)
+reason_apart reason.Cut = (omega arith, λ e. omega arith)
+reason_apart reason.Overlap = (omega arith, λ e. omega arith)
+reason_apart reason.Unknown = (omega arith, λ e. omega arith)
+reason_apart reason.OutOfPlace = (omega arith, λ e. omega arith)
+reason_apart (reason.Body f) = fault_apart f
+reason_apart reason.SliceOrder = (omega arith, λ e. omega arith)
+reason_apart reason.SliceRow = (omega arith, λ e. omega arith)
+reason_apart reason.Twice = (omega arith, λ e. omega arith)
+reason_apart reason.Unended = (omega arith, λ e. omega arith)
+reason_apart reason.Full = (omega arith, λ e. omega arith)
+reason_apart reason.TooLong = (omega arith, λ e. omega arith)
 
 -- ── which refusals carry a bit ──
 

@@ -1,5 +1,5 @@
 -- What is proved of bodies and their layouts beyond the contract of reading.
-use Prim.Native.Nat.{ℕ, ◌<◌}
+use Prim.Native.Nat.{ℕ, ◌/◌, ◌%◌, ◌^◌, ◌<◌}
 use mathlib.Core.Path.{◌≡◌, sym, ◌∙◌}
 use mathlib.Core.Logic.{◌↔◌}
 use mathlib.Core.List.{List}
@@ -7,6 +7,7 @@ use lib.ListN.{length}
 use Rattle.answers.proofs.ResultLaws.{good_same}
 use Rattle.answers.specs.Results.{good, bad}
 use Rattle.layout.specs.Layouts.{fields, bit_count, Begins, placed_at, least_bytes}
+use Rattle.layout.specs.Values.{copyright_number}
 use Rattle.layout.specs.Obeys.{Obeys}
 use Rattle.layout.specs.Breaks.{Breaks}
 use Rattle.layout.specs.Reader.{reading}
@@ -19,6 +20,7 @@ use Rattle.layout.specs.declared.Fault.TheVariants as fault
 use Rattle.layout.proofs.JudgeLaws.{reading_short}
 use Rattle.layout.proofs.ObeyLaws.{obeys_if, if_obeys}
 use Rattle.layout.proofs.BreakLaws.{breaks_if, if_breaks, short_if}
+use Rattle.layout.proofs.OwnerLaws as owners
 use Rattle.layout.proofs.PlaceLaws as places
 
 -- Reading gives values exactly where the body obeys its layout with them.
@@ -49,3 +51,8 @@ begins_inside = places.begins_inside
 -- SHORT is given exactly for a body of fewer bytes than asked for.
 pub short_iff : (layout : Layout) (body : List ℕ) → (reading layout body ≡ bad fault.Short) ↔ (length body < least_bytes layout)
 short_iff layout body = (short_if layout body, reading_short layout body)
+
+-- A copyright number has these parts exactly where it is one × 2^44 + two × 2^22 + three, of parts that fit their fields.
+pub number_parts : (n one two three : ℕ) → two < 2 ^ 22 → three < 2 ^ 22 →
+    (n ≡ copyright_number one two three) ↔ ((one ≡ n / 2 ^ 44) × (two ≡ n / 2 ^ 22 % 2 ^ 22) × (three ≡ n % 2 ^ 22))
+number_parts = owners.number_parts

@@ -1,9 +1,12 @@
--- The rules across a copyright extension's fields.
+-- The rules across a copyright extension's fields, and the parts of its number.
+use Prim.Native.Nat.{ℕ, ◌/◌, ◌%◌, ◌^◌, ◌<◌}
 use mathlib.Core.Path.{◌≡◌, refl}
+use mathlib.Core.Logic.{◌↔◌}
 use mathlib.Core.Bool.{Bool, not, and-true, and-false}
+use native.Mathlib.Omega.{arith}
 use borrow.Author.Tests.{eq-eqb, ne_eqb}
 use lib.Dec.{eqb}
-use Rattle.layout.specs.Values.{Ownership}
+use Rattle.layout.specs.Values.{copyright_number, Ownership}
 use Rattle.layout.specs.Reader.{both, refuse_if, owner_rules}
 use Rattle.layout.specs.declared.JudgedField.TheVariants.{CopyrightOwner, CopyrightNumber}
 use Rattle.layout.specs.declared.Fault.TheVariants.{Value}
@@ -21,3 +24,8 @@ owned_rules c {t} e f = rw (ne_eqb _ 0 e, f, and-true) (both_fine (refuse_if t (
     both_fine : (v : Verdict) → both v Fine ≡ v
     both_fine Fine = refl
     both_fine (Faulty fault) = refl
+
+-- the parts of a copyright number are those whose sum it is
+pub number_parts : (n one two three : ℕ) → two < 2 ^ 22 → three < 2 ^ 22 →
+    (n ≡ copyright_number one two three) ↔ ((one ≡ n / 2 ^ 44) × (two ≡ n / 2 ^ 22 % 2 ^ 22) × (three ≡ n % 2 ^ 22))
+number_parts n one two three h k = ((λ e. (omega arith, omega arith, omega arith)), λ e. omega arith)

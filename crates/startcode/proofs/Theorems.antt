@@ -1,17 +1,19 @@
 -- When the search ends, and which bytes have no kind.
-use Prim.Native.Nat.{ℕ, ◌+◌, ◌-◌, ◌<◌}
-use mathlib.Core.Path.{◌≡◌, refl, sym, ap, ◌∙◌}
-use mathlib.Core.List.{List}
-use mathlib.Core.Bool.{Bool, true, false, ◌||◌, beq}
+use Prim.Native.Nat.{ℕ, ◌+◌, ◌-◌, ◌≤◌, ◌<◌}
+use mathlib.Core.Path.{◌≡◌, refl, sym, ap, subst, ◌∙◌}
+use mathlib.Core.Logic.{◌↔◌, ◌⊎◌, inl, inr}
+use mathlib.Core.List.{List, [], ◌∷◌}
+use mathlib.Core.Bool.{Bool, true, false, ◌&&◌, ◌||◌, beq, false≢true, or-true}
 use native.Mathlib.Omega.{arith}
 use lib.Dec.{leb, eqb}
-use lib.ListN.{drop, length-drop}
+use lib.ListN.{length, drop, length-drop}
 use lib.Seq.{drop-drop}
-use Rattle.answers.specs.Answers.{Outcome, done, refused, OneToOne}
-use Rattle.answers.proofs.OutcomeLaws.{undone}
-use Rattle.bits.proofs.TestLaws.{at_each, beq_true}
+use borrow.Author.Tests.{eq-eqb, eqb-true, le-leb, leb-true, leb-false}
+use Rattle.answers.specs.Answers.{Carried, Outcome, done, refused, OneToOne, UNKNOWN}
+use Rattle.answers.proofs.OutcomeLaws.{not_refused, undone}
+use Rattle.bits.proofs.TestLaws.{at_each, beq_true, by_test, chosen, contrary}
 use Rattle.startcode.specs.Prefix.{begins, before, next_prefix, First}
-use Rattle.startcode.specs.Kinds.{kind_of, kind_says}
+use Rattle.startcode.specs.Kinds.{Codes, kinds, kind_in, kind_of, kind_says}
 use Rattle.startcode.specs.declared.Kind.{Kind}
 use Rattle.startcode.specs.declared.UnitKind.{UnitKind}
 use Rattle.startcode.specs.declared.UnitKind.TheVariants.{Is, Unknown}
@@ -35,6 +37,23 @@ module _ (stream : List ℕ) (from : ℕ) where
         none_before = λ k h i. moved k (k - from) (omega arith) ∙ before_none (drop from stream) (k - from) (omega arith);
       }
 
+-- 00 00 01 would stand at the place before and not stand there
+not_before : {stream : List ℕ} {from a b : ℕ} → First stream from a → First stream from b → a < b → ⊥
+not_before {stream} {from} {a} p q h =
+    let w = q.within in
+    by_test (leb from (length stream))
+    (λ t.
+    let k = p.after (leb-true from (length stream) t) in
+    contrary (begins (drop a stream)) (p.stands (omega arith)) (q.none_before a (omega arith) h))
+    (λ f.
+    let past = leb-false from (length stream) f in
+    let i = p.at_end (omega arith) in
+    let j = q.at_end (omega arith) in
+    omega arith)
+
+pub first_once : {stream : List ℕ} {from a b : ℕ} → First stream from a → First stream from b → a ≡ b
+first_once p q = omega (arith, not_before p q, not_before q p)
+
 unit_kind_of : Outcome Kind → UnitKind
 unit_kind_of (done k) = Is k
 unit_kind_of (refused number carried) = Unknown
@@ -57,3 +76,34 @@ unknown_test = at_each 256 (λ byte. beq (is_unknown (kind_of byte)) (eqb byte 0
 
 pub unknown_bytes : (byte : ℕ) → byte < 256 → is_unknown (kind_of byte) ≡ (eqb byte 0xB4 || leb 0xB8 byte)
 unknown_bytes byte h = beq_true _ _ (unknown_test byte h)
+
+-- ── the bytes that no kind has ──
+
+-- which of the two answers it is
+data Answers : Outcome Kind → Bool → Type 0 where
+  known : {k : Kind} → Answers (done k) false
+  unknown : Answers (refused UNKNOWN []) true
+
+answers : (cs : List Codes) (byte : ℕ) → Answers (kind_in cs byte) (is_unknown (kind_in cs byte))
+answers [] byte = unknown
+answers (c ∷ cs) byte = chosen (λ o. Answers o (is_unknown o)) (leb c.first byte && leb byte c.last) _ _ (λ t. known) (λ f. answers cs byte)
+
+is_listed : (byte : ℕ) → (eqb byte 0xB4 || leb 0xB8 byte ≡ true) ↔ ((byte ≡ 0xB4) ⊎ (0xB8 ≤ byte))
+is_listed byte = (to, from)
+  where
+    to : eqb byte 0xB4 || leb 0xB8 byte ≡ true → (byte ≡ 0xB4) ⊎ (0xB8 ≤ byte)
+    to e = by_test (eqb byte 0xB4) (λ t. inl (eqb-true byte 0xB4 t)) (λ f. inr (leb-true 0xB8 byte (rw f at e)))
+
+    from : (byte ≡ 0xB4) ⊎ (0xB8 ≤ byte) → eqb byte 0xB4 || leb 0xB8 byte ≡ true
+    from (inl e) = rw (eq-eqb byte 0xB4 e)
+    from (inr h) = simp (le-leb 0xB8 byte h, or-true)
+
+refused_where : {o : Outcome Kind} {t : Bool} {P : Type 0} {number : ℕ} {carried : List Carried} → Answers o t → (t ≡ true) ↔ P
+    → (o ≡ refused number carried) ↔ ((number ≡ UNKNOWN) × (carried ≡ []) × P)
+refused_where known p = (λ e. not_refused e, λ q. absurd (false≢true (p.1 q.2)))
+refused_where unknown p = (λ e. (cc, cc, p.0 refl), λ q. rw (q.0, q.1))
+
+pub unknown_iff : (byte number : ℕ) (carried : List Carried) → byte < 256
+    → (kind_of byte ≡ refused number carried) ↔ ((number ≡ UNKNOWN) × (carried ≡ []) × ((byte ≡ 0xB4) ⊎ (0xB8 ≤ byte)))
+unfolding kind_of
+unknown_iff byte number carried h = refused_where (subst (Answers (kind_of byte)) (unknown_bytes byte h) (answers kinds byte)) (is_listed byte)

@@ -1,18 +1,26 @@
--- What is proved of answers beyond the contracts of the functions: the bit is there exactly for MARKER and VALUE, and the mark that
--- stands for none is no bit.
+-- What is proved of answers beyond the contracts of the functions: demand 3 of filing's; and that the bit is there exactly for MARKER and
+-- VALUE, and the mark that stands for none is no bit.
 use Prim.Native.Nat.{ℕ}
 use mathlib.Core.List.{List}
 use lib.ListN.{length}
 use Rattle.answers.specs.Answers.{Outcome, done, refused, map_done}
-use Rattle.grammar.specs.Reader.{walk, walk_into, said}
+use Rattle.grammar.specs.Reader.{walk, walk_into, said, filing_into}
 use Rattle.grammar.specs.Refusals.{RefusesInto, refuses, full}
 use Rattle.grammar.specs.declared.Reason.{Reason}
 use Rattle.grammar.proofs.ReasonLaws.{BitSmall, refuses_fair, full_fair}
 use Rattle.grammar.proofs.Refusals.{stopped_iff, into_stopped_iff}
-use Rattle.filing.specs.Filing.{totals}
+use Rattle.filing.specs.Filing.{totals, words_after}
 use Rattle.filing.specs.Reader.{filed}
-use Rattle.statuses.specs.Answers.{counted, filed_answer, BitMarked}
+use Rattle.statuses.specs.Answers.{counted, filed_answer, AnsweredByReading, BitMarked}
 use Rattle.statuses.proofs.MarkLaws.{marked_walk}
+use Rattle.statuses.proofs.ReadingLaws as readings
+
+-- Demand 3 of what `file` answers C, in the terms of its contract: status 0 with n units exactly where there is a reading of n units and
+-- room, and then the first words are its rows; FULL exactly where there is a reading and no room; any status but 0 leaves all words.
+pub file_by_reading : (stream lent : List ℕ) → AnsweredByReading stream lent (words_after (filing_into stream (length lent)) lent) (filed_answer (filed stream (length lent)))
+file_by_reading = readings.file_by_reading
+
+-- ── the bit ──
 
 -- of what `check` answers
 pub check_marked : (stream : List ℕ) → BitMarked (counted (said length (walk stream)))

@@ -1,11 +1,12 @@
 -- An answer of the papers by value: a status, an offset, a count and a bit; a part of a stream; the number of a kind.
 use Rattle.std.specs.Prelude.{ℕ, ◌+◌, ◌<◌, ◌≡◌, ◌≢◌, List, [], ◌∷◌}
 use Rattle.std.proofs.Math.Option.{Option, none, some}
-use Rattle.answers.specs.Answers.{Carried, at_offset, at_bit, missing, Outcome, done, refused, map_done}
+use Rattle.answers.specs.Answers.{Carried, at_offset, at_bit, missing, Outcome, done, refused, map_done, FULL}
 use Rattle.startcode.specs.declared.Kind.{Kind}
 use Rattle.startcode.specs.declared.Kind.TheVariants.{Slice, SequenceHeader, SequenceEnd, UserData, IPicture, Extension, PBPicture, EditCode}
 use Rattle.grammar.specs.Rows.{Row}
 use Rattle.grammar.specs.Reasons.{BitNumber}
+use Rattle.filing.specs.Filing.{ByReading}
 use Rattle.filing.specs.declared.Totals.{Totals}
 use Rattle.statuses.specs.declared.Answer.{Answer}
 use Rattle.statuses.specs.declared.Part.{Part}
@@ -46,6 +47,10 @@ pub record BitMarked (a : Answer) : Type 0 where
 -- filing's count is that of the units
 abbrev pub filed_answer : Outcome Totals → Answer
 filed_answer o = counted (map_done (λ t. t.units) o)
+
+-- demand 3 of such an answer: FILED is status 0 with the count, and any other status refuses
+abbrev pub AnsweredByReading : List ℕ → List ℕ → List ℕ → Answer → Type 0
+AnsweredByReading stream lent after a = ByReading stream lent after (λ n. (a.status ≡ 0) × (a.count ≡ n)) (a.status ≡ FULL) (a.status ≢ 0)
 
 -- where the body of a row lies in the stream; for no row the empty part at the stream's start
 abbrev pub part_at : Option Row → Part
