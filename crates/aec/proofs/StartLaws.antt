@@ -1,4 +1,5 @@
 -- Which bits the start lacks, by the bits alone.
+use Rattle.std.proofs.Common.{Ok}
 use Prim.Native.Nat.{ℕ, zero, suc, ◌+◌, ◌*◌, ◌^◌, ◌≤◌, ◌<◌}
 use mathlib.Core.Path.{◌≡◌, refl, sym, ap, subst, ◌∙◌}
 use mathlib.Core.List.{List, [], ◌∷◌, ◌++◌, append-nil}
@@ -10,9 +11,8 @@ use lib.Dec.{leb}
 use lib.ListN.{length, drop, replicate}
 use lib.Pow.{pow_pos}
 use Rattle.answers.specs.Answers.{Outcome, done}
-use Rattle.answers.specs.Results.{good}
 use Rattle.answers.proofs.OutcomeLaws.{not_done}
-use Rattle.answers.proofs.ResultLaws.{good_same, not_good}
+use Rattle.answers.proofs.ResultLaws.{ok_same, not_ok}
 use Rattle.bits.specs.Bits.{read_on, read_at}
 use Rattle.bits.specs.Lists.{All}
 use Rattle.bits.proofs.BitLaws.{Binary}
@@ -94,11 +94,11 @@ module _ (z : Shift) (h : z.value ≡ 0) where
 -- ── the nine are read at once ──
 
 -- bits that are read at once are taken as one by one
-at_once : (w : ℕ) (l : List ℕ) (z : Shift) (v : ℕ) → All Binary l → (z.value + 1) * 2 ^ w ≤ 512 → read_on z.value w l ≡ good v
+at_once : (w : ℕ) (l : List ℕ) (z : Shift) (v : ℕ) → All Binary l → (z.value + 1) * 2 ^ w ≤ 512 → read_on z.value w l ≡ Ok v
     → (y : Shift) × (y.value ≡ v) × (loop l z ≡ loop (drop w l) y)
 unfolding read_on
-at_once zero l z v all h e = (z, good_same e, refl)
-at_once (suc w) [] z v all h e = not_good e
+at_once zero l z v all h e = (z, ok_same e, refl)
+at_once (suc w) [] z v all h e = not_ok e
 at_once (suc w) (b ∷ l) z v all h e =
     let r = at_once w l (next z b) v all.1 (on z w b all.0 h) e in
     (r.0, r.1, shifts_more enough (λ vs. vs + 1) b l z (still z w h) ∙ r.2)
@@ -124,7 +124,7 @@ all_after : (k : ℕ) (rest : List ℕ) → All Binary (replicate k 0 ++ (1 ∷ 
 all_after zero rest all = all.1
 all_after (suc k) rest all = all_after k rest all.1
 
-module _ (bits : List ℕ) (v : ℕ) (all : All Binary bits) (read : read_at bits 0 9 ≡ good v) where
+module _ (bits : List ℕ) (v : ℕ) (all : All Binary bits) (read : read_at bits 0 9 ≡ Ok v) where
   abbrev zero_bits : Shift
   zero_bits = record { value = 0; beside = 0; place = 0 }
 

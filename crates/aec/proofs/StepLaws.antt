@@ -1,4 +1,5 @@
 -- The laws of the steps: what is refused first, s, t and R, what valueT becomes.
+use Rattle.std.proofs.Common.{Ok}
 use Prim.Native.Nat.{ℕ, ◌+◌, ◌-◌, ◌/◌, ◌≤◌, ◌<◌}
 use mathlib.Core.Path.{◌≡◌, sym, ap, ◌∙◌}
 use mathlib.Core.List.{List, []}
@@ -9,7 +10,6 @@ use lib.Dec.{leb, ltb, eqb}
 use lib.ListN.{length, drop, length-take}
 use Rattle.answers.specs.Answers.{Outcome, done, refused, TOO_LONG, BAD_STATE, and_then}
 use Rattle.answers.specs.Limits.{longest_payload}
-use Rattle.answers.specs.Results.{good}
 use Rattle.bits.specs.Bits.{payload, read_at}
 use Rattle.bits.specs.Lists.{All}
 use Rattle.bits.proofs.TestLaws.{by_test, and_true}
@@ -67,7 +67,7 @@ module _ (bytes : List ℕ) (count : ℕ) (x : State) (contexts : Bool) where
 -- ── the first nine bits ──
 
 -- nine bits that were read are there
-pub nine_bits : (bytes : List ℕ) (count v : ℕ) → read_at (payload bytes count) 0 9 ≡ good v → (9 ≤ length (payload bytes count)) × (v < 512)
+pub nine_bits : (bytes : List ℕ) (count v : ℕ) → read_at (payload bytes count) 0 9 ≡ Ok v → (9 ≤ length (payload bytes count)) × (v < 512)
 nine_bits bytes count v e =
     let r = (read_exactly bytes count 0 9 v).0 e in
     let n = sym (length-take 9 (payload bytes count)) ∙ ap length r.1 ∙ length_in 9 v in

@@ -1,4 +1,5 @@
 -- The theorems of the front page, from the laws.
+use Rattle.std.proofs.Common.{Ok}
 use Prim.Native.Nat.{ℕ, ◌-◌, ◌%◌, ◌≤◌, ◌<◌}
 use mathlib.Core.Path.{◌≡◌, refl, sym, ap, subst, ◌∙◌}
 use mathlib.Core.Logic.{◌⊎◌, inl, inr, ◌↔◌}
@@ -11,7 +12,6 @@ use lib.ListN.{length, replicate}
 use Rattle.answers.specs.Answers.{Carried, missing, Outcome, done, refused, TOO_LONG, BAD_STATE, PAYLOAD_OUT, and_then, OneToOne}
 use Rattle.answers.specs.Limits.{longest_payload}
 use Rattle.answers.specs.Missing.{payload_out, SaysMissing, says_done, says_none, says_out, missing_in}
-use Rattle.answers.specs.Results.{good}
 use Rattle.bits.specs.Bits.{payload, read_at, read_or}
 use Rattle.bits.proofs.TestLaws.{by_test, and_true}
 use Rattle.bits.proofs.BitLaws.{all_payload, leading}
@@ -226,7 +226,7 @@ module _ (bytes : List ℕ) (count : ℕ) where
   abbrev bits : List ℕ
   bits = payload bytes count
 
-  settled : (v : ℕ) (o : Outcome Shift) → read_at bits 0 9 ≡ good v → normalise_of bits v 9 ≡ o → starting ≡ and_then o (λ z. done (record { rs = 0; rt = 255; vs = z.beside; vt = z.value % 256; place = z.place }))
+  settled : (v : ℕ) (o : Outcome Shift) → read_at bits 0 9 ≡ Ok v → normalise_of bits v 9 ≡ o → starting ≡ and_then o (λ z. done (record { rs = 0; rt = 255; vs = z.beside; vt = z.value % 256; place = z.place }))
   settled v o r e = rw (r, e)
 
   lacks_answers : {m : ℕ} → LacksStart bits m → starting ≡ payload_out m

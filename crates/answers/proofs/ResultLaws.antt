@@ -2,30 +2,31 @@
 use Prim.Native.Nat.{ℕ}
 use mathlib.Core.Path.{◌≡◌, refl}
 use native.Mathlib.Omega.{arith}
-use Rattle.answers.specs.Results.{Result, good, bad, ◌>>=◌, map_good}
+use Rattle.std.specs.Prelude.{Result, Ok, Err}
+use Rattle.answers.specs.Results.{◌>>=◌, map_ok}
 
-pub not_good : {E A P : Type 0} {why : E} {a : A} → bad why ≡ good a → P
-not_good e = let z : ◌≡◌ {A = ℕ} 0 1 = cc in absurd (omega arith)
+pub not_ok : {E A P : Type 0} {why : E} {a : A} → ◌≡◌ {A = Result A E} (Err why) (Ok a) → P
+not_ok e = let z : ◌≡◌ {A = ℕ} 0 1 = cc in absurd (omega arith)
 
-pub not_bad : {E A P : Type 0} {why : E} {a : A} → good a ≡ bad why → P
-not_bad e = let z : ◌≡◌ {A = ℕ} 0 1 = cc in absurd (omega arith)
+pub not_err : {E A P : Type 0} {why : E} {a : A} → ◌≡◌ {A = Result A E} (Ok a) (Err why) → P
+not_err e = let z : ◌≡◌ {A = ℕ} 0 1 = cc in absurd (omega arith)
 
-pub good_same : {E A : Type 0} {a b : A} → ◌≡◌ {A = Result E A} (good a) (good b) → a ≡ b
-good_same e = cc
+pub ok_same : {E A : Type 0} {a b : A} → ◌≡◌ {A = Result A E} (Ok a) (Ok b) → a ≡ b
+ok_same e = cc
 
-pub bad_same : {E A : Type 0} {why other : E} → ◌≡◌ {A = Result E A} (bad why) (bad other) → why ≡ other
-bad_same e = cc
+pub err_same : {E A : Type 0} {why other : E} → ◌≡◌ {A = Result A E} (Err why) (Err other) → why ≡ other
+err_same e = cc
 
 -- ── one step after another ──
 
-pub bind_good : {E A B : Type 0} (r : Result E A) (next : A → Result E B) (b : B) → (r >>= next) ≡ good b → (a : A) × (r ≡ good a) × (next a ≡ good b)
-bind_good (good a) next b e = (a, refl, e)
-bind_good (bad why) next b e = not_good e
+pub bind_ok : {E A B : Type 0} (r : Result A E) (next : A → Result B E) (b : B) → (r >>= next) ≡ Ok b → (a : A) × (r ≡ Ok a) × (next a ≡ Ok b)
+bind_ok (Ok a) next b e = (a, refl, e)
+bind_ok (Err why) next b e = not_ok e
 
-pub map_good_lem : {E A B : Type 0} (f : A → B) (r : Result E A) (b : B) → map_good f r ≡ good b → (a : A) × (r ≡ good a) × (f a ≡ b)
-map_good_lem f (good a) b e = (a, refl, good_same e)
-map_good_lem f (bad why) b e = not_good e
+pub map_ok_lem : {E A B : Type 0} (f : A → B) (r : Result A E) (b : B) → map_ok f r ≡ Ok b → (a : A) × (r ≡ Ok a) × (f a ≡ b)
+map_ok_lem f (Ok a) b e = (a, refl, ok_same e)
+map_ok_lem f (Err why) b e = not_ok e
 
-pub map_bad : {E A B : Type 0} (f : A → B) (r : Result E A) (why : E) → map_good f r ≡ bad why → r ≡ bad why
-map_bad f (good a) why e = not_bad e
-map_bad f (bad other) why e = let i : other ≡ why = bad_same e in rw i
+pub map_err : {E A B : Type 0} (f : A → B) (r : Result A E) (why : E) → map_ok f r ≡ Err why → r ≡ Err why
+map_err f (Ok a) why e = not_err e
+map_err f (Err other) why e = let i : other ≡ why = err_same e in rw i

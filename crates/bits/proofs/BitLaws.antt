@@ -1,4 +1,5 @@
 -- The laws of bits and of the read, for any width.
+use Rattle.std.proofs.Common.{Result, Ok, Err}
 use Prim.Native.Nat.{ℕ, zero, suc, ◌+◌, ◌-◌, ◌*◌, ◌/◌, ◌%◌, ◌^◌, ◌≤◌, ◌<◌, min}
 use mathlib.Core.Path.{◌≡◌, refl, sym, ap, ◌∙◌}
 use mathlib.Core.List.{List, [], ◌∷◌, ◌++◌}
@@ -10,8 +11,7 @@ use lib.ListN.{length, get_or, take, drop, replicate, length-append, length-take
 use lib.Pow.{shr-shr, field, mod-mod-pow}
 use lib.Seq.{drop-drop, get_or-take, get_or-append-add}
 use Rattle.bits.specs.Lists.{All}
-use Rattle.answers.specs.Results.{Result, good, bad}
-use Rattle.answers.proofs.ResultLaws.{not_good, not_bad, good_same, bad_same}
+use Rattle.answers.proofs.ResultLaws.{not_ok, not_err, ok_same, err_same}
 use Rattle.bits.specs.Bits.{bits_in, bits_of, payload, bit_at, read_on, read_at, read_says, read_within}
 use Rattle.bits.specs.declared.Bit.{Bit}
 use Rattle.bits.specs.declared.Bit.TheVariants as bit
@@ -176,10 +176,10 @@ bit_inside l place b t e = let d = sym (length-drop place l) ∙ ap length e in 
 -- ── any width ──
 
 -- what was read writes the bits that it was read from, after those of `acc`
-pub read_writes : (acc w n : ℕ) (l : List ℕ) → All Binary l → read_on acc w l ≡ good n → (take w l ≡ bits_in w n) × (n / 2 ^ w ≡ acc)
+pub read_writes : (acc w n : ℕ) (l : List ℕ) → All Binary l → read_on acc w l ≡ Ok n → (take w l ≡ bits_in w n) × (n / 2 ^ w ≡ acc)
 unfolding read_on bits_in
-read_writes acc zero n l h e = let v = good_same e in (refl, simp div-one (sym v))
-read_writes acc (suc w) n [] h e = not_good e
+read_writes acc zero n l h e = let v = ok_same e in (refl, simp div-one (sym v))
+read_writes acc (suc w) n [] h e = not_ok e
 read_writes acc (suc w) n (b ∷ l) h e =
     let (bits, high) = read_writes (acc * 2 + b) w n l h.1 e in
     let small = h.0 in
@@ -187,9 +187,9 @@ read_writes acc (suc w) n (b ∷ l) h e =
     (rw (m, bits), rw (pow-suc 2 w, ← div-div-eq-div-mul n (2 ^ w) 2) (omega arith))
 
 -- and bits that write n are read as n
-pub reads_written : (acc w n : ℕ) (l : List ℕ) → take w l ≡ bits_in w n → n / 2 ^ w ≡ acc → read_on acc w l ≡ good n
+pub reads_written : (acc w n : ℕ) (l : List ℕ) → take w l ≡ bits_in w n → n / 2 ^ w ≡ acc → read_on acc w l ≡ Ok n
 unfolding read_on bits_in
-reads_written acc zero n l e h = ap good (sym h ∙ div-one n)
+reads_written acc zero n l e h = ap Ok (sym h ∙ div-one n)
 reads_written acc (suc w) n [] e h = let z : ◌≡◌ {A = ℕ} 0 1 = cc (ap length e) in absurd (omega arith)
 reads_written acc (suc w) n (b ∷ l) e h =
     let x : b ≡ n / 2 ^ w % 2 = cc in
@@ -198,19 +198,19 @@ reads_written acc (suc w) n (b ∷ l) e h =
     reads_written (acc * 2 + b) w n l t (omega arith)
 
 -- a read fails exactly where the bits are fewer than it wants, and by how many they are fewer
-pub read_lacks : (acc w m : ℕ) (l : List ℕ) → read_on acc w l ≡ bad m → (length l < w) × (m ≡ w - length l)
+pub read_lacks : (acc w m : ℕ) (l : List ℕ) → read_on acc w l ≡ Err m → (length l < w) × (m ≡ w - length l)
 unfolding read_on
-read_lacks acc zero m l e = not_bad e
-read_lacks acc (suc w) m [] e = let s = bad_same e in (omega arith, omega arith)
+read_lacks acc zero m l e = not_err e
+read_lacks acc (suc w) m [] e = let s = err_same e in (omega arith, omega arith)
 read_lacks acc (suc w) m (b ∷ l) e = let r = read_lacks (acc * 2 + b) w m l e in (omega arith, omega arith)
 
-pub lacks_read : (acc w : ℕ) (l : List ℕ) → length l < w → read_on acc w l ≡ bad (w - length l)
+pub lacks_read : (acc w : ℕ) (l : List ℕ) → length l < w → read_on acc w l ≡ Err (w - length l)
 unfolding read_on
 lacks_read acc zero l h = absurd (omega arith)
-lacks_read acc (suc w) [] h = let e : suc w ≡ suc w - 0 = omega arith in ap bad e
+lacks_read acc (suc w) [] h = let e : suc w ≡ suc w - 0 = omega arith in ap Err e
 lacks_read acc (suc w) (b ∷ l) h =
     let e : w - length l ≡ suc w - suc (length l) = omega arith in
-    lacks_read (acc * 2 + b) w l (omega arith) ∙ ap bad e
+    lacks_read (acc * 2 + b) w l (omega arith) ∙ ap Err e
 
 -- ── within 32 bits ──
 
@@ -224,21 +224,21 @@ within_is l place width h = simp (le-leb width 32 h)
 
 -- no two reads answer alike, and none answers TooWide
 pub says_same : (r s : Result ℕ ℕ) → read_says r ≡ read_says s → r ≡ s
-says_same (good m) (good n) e = let i : m ≡ n = cc in ap good i
-says_same (good m) (bad n) e = let z : ◌≡◌ {A = ℕ} 0 1 = cc in absurd (omega arith)
-says_same (bad m) (good n) e = let z : ◌≡◌ {A = ℕ} 0 1 = cc in absurd (omega arith)
-says_same (bad m) (bad n) e = let i : m ≡ n = cc in ap bad i
+says_same (Ok m) (Ok n) e = let i : m ≡ n = cc in ap Ok i
+says_same (Ok m) (Err n) e = let z : ◌≡◌ {A = ℕ} 0 1 = cc in absurd (omega arith)
+says_same (Err m) (Ok n) e = let z : ◌≡◌ {A = ℕ} 0 1 = cc in absurd (omega arith)
+says_same (Err m) (Err n) e = let i : m ≡ n = cc in ap Err i
 
 pub says_wide : {P : Type 0} (r : Result ℕ ℕ) → read_says r ≡ read.TooWide → P
-says_wide (good v) e = let z : ◌≡◌ {A = ℕ} 0 1 = cc in absurd (omega arith)
-says_wide (bad n) e = let z : ◌≡◌ {A = ℕ} 0 1 = cc in absurd (omega arith)
+says_wide (Ok v) e = let z : ◌≡◌ {A = ℕ} 0 1 = cc in absurd (omega arith)
+says_wide (Err n) e = let z : ◌≡◌ {A = ℕ} 0 1 = cc in absurd (omega arith)
 
 module _ (l : List ℕ) (place width : ℕ) (h : width ≤ 32) where
-  pub within_value : (n : ℕ) → read_within l place width ≡ read.Value n → read_at l place width ≡ good n
-  within_value n e = says_same (read_at l place width) (good n) (sym (within_is l place width h) ∙ e)
+  pub within_value : (n : ℕ) → read_within l place width ≡ read.Value n → read_at l place width ≡ Ok n
+  within_value n e = says_same (read_at l place width) (Ok n) (sym (within_is l place width h) ∙ e)
 
-  pub within_missing : (m : ℕ) → read_within l place width ≡ read.Missing m → read_at l place width ≡ bad m
-  within_missing m e = says_same (read_at l place width) (bad m) (sym (within_is l place width h) ∙ e)
+  pub within_missing : (m : ℕ) → read_within l place width ≡ read.Missing m → read_at l place width ≡ Err m
+  within_missing m e = says_same (read_at l place width) (Err m) (sym (within_is l place width h) ∙ e)
 
   pub never_wide : {P : Type 0} → read_within l place width ≡ read.TooWide → P
   never_wide e = says_wide (read_at l place width) (sym (within_is l place width h) ∙ e)

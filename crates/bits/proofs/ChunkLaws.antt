@@ -1,4 +1,5 @@
 -- The laws of bits read as whole bytes, of which those at either end are then cut off.
+use Rattle.std.proofs.Common.{Ok}
 use Prim.Native.Nat.{ℕ, zero, suc, ◌+◌, ◌-◌, ◌*◌, ◌/◌, ◌%◌, ◌^◌, ◌≤◌, ◌<◌}
 use mathlib.Core.Path.{◌≡◌, sym, ap, ◌∙◌}
 use mathlib.Core.List.{List, [], ◌∷◌, ◌++◌}
@@ -7,7 +8,6 @@ use native.Mathlib.Nat.{mod-lt}
 use lib.ListN.{length, get_or, take, drop}
 use lib.Pow.{pow_pos, pow-add}
 use lib.Seq.{take-add, take_at, take-take, drop_at, drop-append-add, drop-drop}
-use Rattle.answers.specs.Results.{good}
 use Rattle.bits.specs.Bits.{bits_in, bits_of, payload, read_at}
 use Rattle.bits.proofs.BitLaws.{length_in, in_append, in_low}
 use Rattle.bits.proofs.ReadLaws.{value_exactly}
@@ -71,7 +71,7 @@ within_count s count place width h =
 -- the bytes from the one that holds the first bit to the one that holds the last, and the bits before and after cut off
 pub bytes_read : (s : List ℕ) (count place last width value : ℕ) → last + 1 ≡ place + width → last < count →
     take ((last / 8 + 1 - place / 8) * 8) (drop (place / 8 * 8) (bits_of s)) ≡ bits_in ((last / 8 + 1 - place / 8) * 8) value →
-    read_at (payload s count) place width ≡ good (value / 2 ^ (7 - last % 8) % 2 ^ width)
+    read_at (payload s count) place width ≡ Ok (value / 2 ^ (7 - last % 8) % 2 ^ width)
 bytes_read s count place last width value ends inside e =
     let after = 7 - last % 8 in
     let q : place / 8 * 8 + place % 8 ≡ place = omega arith in

@@ -1,4 +1,5 @@
 -- The laws of many bits at once: those from a place on as the last bits of a number.
+use Rattle.std.proofs.Common.{Result, Ok, Err}
 use Prim.Native.Nat.{ℕ, ◌+◌, ◌-◌, ◌/◌, ◌%◌, ◌^◌, ◌≤◌, ◌<◌}
 use mathlib.Core.Path.{◌≡◌, refl, sym, ap, ◌∙◌}
 use mathlib.Core.List.{List, ◌∷◌}
@@ -8,7 +9,6 @@ use borrow.Author.Tests.{le-leb, lt-leb}
 use lib.Dec.{leb}
 use lib.ListN.{length, get_or, take, drop, length-take, length-drop}
 use lib.Seq.{drop-drop, get_or-take, get_or-drop}
-use Rattle.answers.specs.Results.{Result, good, bad}
 use Rattle.bits.specs.Bits.{bits_in, payload, read_at}
 use Rattle.bits.specs.Reader.{word_says, word_at}
 use Rattle.bits.specs.declared.Word.TheVariants as word
@@ -53,7 +53,7 @@ pub word_few : (bits : List ℕ) (place : ℕ) → length bits - place < 32 → 
 unfolding word_at
 word_few bits place h = simp (lt-leb 32 (length bits - place) h)
 
-pub word_is : (bits : List ℕ) (place v : ℕ) → 32 ≤ length bits - place → read_at bits place (32 - place % 8) ≡ good v →
+pub word_is : (bits : List ℕ) (place v : ℕ) → 32 ≤ length bits - place → read_at bits place (32 - place % 8) ≡ Ok v →
     word_at bits place ≡ word.Bits v (32 - place % 8)
 unfolding word_at
 word_is bits place v h e = simp (le-leb 32 (length bits - place) h, e)
@@ -72,9 +72,9 @@ word_ahead s count place v w e =
 
     by : (r : Result ℕ ℕ) → read_at (payload s count) place (32 - place % 8) ≡ r → word_says (32 - place % 8) r ≡ word.Bits v w →
         (w ≡ 32 - place % 8) × (v < 2 ^ w) × Ahead (payload s count) place w v
-    by (good n) r d =
+    by (Ok n) r d =
         let same : n ≡ v = cc in
         let wide : 32 - place % 8 ≡ w = cc in
         let x = (value_exactly s count place (32 - place % 8) n).0 r in
         rw (← wide, ← same) (refl, x.0, x.1)
-    by (bad m) r d = none d
+    by (Err m) r d = none d

@@ -1,6 +1,5 @@
 -- The bits of bytes, most significant first ("Layouts", "Escape removal"), the one read of them, and their packing.
-use Rattle.std.specs.Prelude.{ℕ, zero, suc, ◌+◌, ◌-◌, ◌*◌, ◌/◌, ◌%◌, ◌^◌, List, [], ◌∷◌, ◌++◌, cond, take, drop, leb, eqb}
-use Rattle.answers.specs.Results.{Result, good, bad}
+use Rattle.std.specs.Prelude.{ℕ, zero, suc, ◌+◌, ◌-◌, ◌*◌, ◌/◌, ◌%◌, ◌^◌, List, [], ◌∷◌, ◌++◌, cond, take, drop, leb, eqb, Result, Ok, Err}
 use Rattle.bits.specs.declared.Bit.{Bit}
 use Rattle.bits.specs.declared.Bit.TheVariants as bit
 use Rattle.bits.specs.declared.Read.{Read}
@@ -28,8 +27,8 @@ bit_at (b ∷ bits) (suc place) = bit_at bits place
 
 -- `width` bits from the head of a list, after bits that write `value`; where the list ends first, how many of them are missing
 unfoldable pub read_on : ℕ → ℕ → List ℕ → Result ℕ ℕ
-read_on value zero bits = good value
-read_on value (suc width) [] = bad (suc width)
+read_on value zero bits = Ok value
+read_on value (suc width) [] = Err (suc width)
 read_on value (suc width) (b ∷ bits) = read_on (value * 2 + b) width bits
 
 -- The one read: the number in `width` bits from a place on, or how many of them are missing. A place past the end counts as the end.
@@ -38,12 +37,12 @@ read_at bits place width = read_on 0 width (drop place bits)
 
 -- What a read gives its asker: `found` of its value, or the asker's own refusal of how many bits are missing.
 abbrev pub read_or : {A : Type 0} → (ℕ → A) → (ℕ → A) → Result ℕ ℕ → A
-read_or found lacks (good n) = found n
-read_or found lacks (bad m) = lacks m
+read_or found lacks (Ok n) = found n
+read_or found lacks (Err m) = lacks m
 
 abbrev pub read_says : Result ℕ ℕ → Read
-read_says (good n) = read.Value n
-read_says (bad m) = read.Missing m
+read_says (Ok n) = read.Value n
+read_says (Err m) = read.Missing m
 
 -- A number of 32 bits holds no wider read: it is asked in error, and no refusal of document 01.
 unfoldable pub read_within : List ℕ → ℕ → ℕ → Read

@@ -1,13 +1,12 @@
 -- Many bits at once, by the one read: what is computed, and no part of document 01.
-use Rattle.std.specs.Prelude.{ℕ, ◌-◌, ◌%◌, List, cond, length, leb}
-use Rattle.answers.specs.Results.{Result, good, bad}
+use Rattle.std.specs.Prelude.{ℕ, ◌-◌, ◌%◌, List, cond, length, leb, Result, Ok, Err}
 use Rattle.bits.specs.Bits.{read_at}
 use Rattle.bits.specs.declared.Word.{Word}
 use Rattle.bits.specs.declared.Word.TheVariants as word
 
 abbrev pub word_says : ℕ → Result ℕ ℕ → Word
-word_says width (good n) = word.Bits n width
-word_says width (bad m) = word.Few
+word_says width (Ok n) = word.Bits n width
+word_says width (Err m) = word.Few
 
 -- the bits from a place on to the end of the fourth byte, where 32 are left
 unfoldable pub word_at : List ℕ → ℕ → Word

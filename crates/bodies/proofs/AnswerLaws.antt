@@ -1,4 +1,5 @@
 -- The laws of answers: records, extensions by their number and colour bit.
+use Rattle.std.proofs.Common.{Ok, Err}
 use Prim.Native.Nat.{ℕ, zero, suc, ◌≤◌, ◌<◌}
 use mathlib.Core.Path.{◌≡◌, refl, sym, ap, ◌∙◌, subst}
 use mathlib.Core.List.{List, [], ◌∷◌}
@@ -15,9 +16,9 @@ use Rattle.bits.proofs.TestLaws.{by_test}
 use Rattle.bits.proofs.BitLaws.{length_bits, all_bits, bit_here, bit_small}
 use Rattle.layout.specs.Layouts.{fields, least_bytes}
 use Rattle.layout.specs.Obeys.{Fits}
-use Rattle.layout.specs.Reader.{Result, ◌>>◌, refuse_if, reading}
+use Rattle.layout.specs.Reader.{Reading, ◌>>◌, refuse_if, reading}
 use Rattle.bodies.specs.Reader.{recorded, record_of, plain_of, coloured_of, copyright_of, is_one, read_bit, display_short, display_of}
-use Rattle.answers.specs.Results.{good, bad, ◌>>=◌}
+use Rattle.answers.specs.Results.{◌>>=◌}
 use Rattle.layout.specs.Answers.{verdict_says, body_says}
 use Rattle.bodies.specs.Extensions.{ColourGiven}
 use Rattle.bodies.specs.Records.{plain_record, coloured_record, copyright_record}
@@ -47,20 +48,20 @@ module _ (layout : Layout) (body : List ℕ) (r : Body) (says : body_says layout
   pub held_length : r.verdict ≡ Fine → length (take (length (fields layout)) r.values) ≡ length (fields layout)
   held_length e = fits_length (fields layout) (take (length (fields layout)) r.values) (held e)
 
-  pub record_refused : {A : Type 0} (make : List ℕ → Option A) (why : Fault) → r.verdict ≡ Faulty why → record_of layout make body ≡ bad why
+  pub record_refused : {A : Type 0} (make : List ℕ → Option A) (why : Fault) → r.verdict ≡ Faulty why → record_of layout make body ≡ Err why
   unfolding record_of
-  record_refused make why e = ap (λ (x : Result (List ℕ)). x >>= (λ vs. recorded (make vs))) (read_is (Faulty why) e)
+  record_refused make why e = ap (λ (x : Reading (List ℕ)). x >>= (λ vs. recorded (make vs))) (read_is (Faulty why) e)
 
-  pub record_made : {A : Type 0} (make : List ℕ → Option A) (a : A) → r.verdict ≡ Fine → make (take (length (fields layout)) r.values) ≡ some a → record_of layout make body ≡ good a
+  pub record_made : {A : Type 0} (make : List ℕ → Option A) (a : A) → r.verdict ≡ Fine → make (take (length (fields layout)) r.values) ≡ some a → record_of layout make body ≡ Ok a
   unfolding record_of
-  record_made make a e m = ap (λ (x : Result (List ℕ)). x >>= (λ vs. recorded (make vs))) (read_is Fine e) ∙ ap recorded m
+  record_made make a e m = ap (λ (x : Reading (List ℕ)). x >>= (λ vs. recorded (make vs))) (read_is Fine e) ∙ ap recorded m
 
 -- ── an extension by its layout ──
 
-record_then : {A B : Type 0} (r : Result (List ℕ)) (make : List ℕ → Option A) (wrap : A → B) →
-    ((r >>= (λ vs. recorded (make vs))) >>= (λ a. good (wrap a))) ≡ (r >>= (λ vs. recorded (make vs) >>= (λ a. good (wrap a))))
-record_then (good vs) make wrap = refl
-record_then (bad why) make wrap = refl
+record_then : {A B : Type 0} (r : Reading (List ℕ)) (make : List ℕ → Option A) (wrap : A → B) →
+    ((r >>= (λ vs. recorded (make vs))) >>= (λ a. Ok (wrap a))) ≡ (r >>= (λ vs. recorded (make vs) >>= (λ a. Ok (wrap a))))
+record_then (Ok vs) make wrap = refl
+record_then (Err why) make wrap = refl
 
 -- its values are read, and make its record
 result_by_lem : (which : Recorded) (body : List ℕ) → result_by which body ≡ (reading (layout_by which) body >>= record_by which)
@@ -72,9 +73,9 @@ result_by_lem Copyright body = record_then (reading layout.Copyright body) copyr
 module _ (which : Recorded) (layout : Layout) (same : layout ≡ layout_by which) (body : List ℕ) (r : Body) (says : body_says layout r ≡ reading layout body) where
   result_is : (v : Verdict) → r.verdict ≡ v → result_by which body ≡ (verdict_says v (take (length (fields layout)) r.values) >>= record_by which)
   result_is v e =
-      result_by_lem which body ∙ ap (λ (l : Layout). reading l body >>= record_by which) (sym same) ∙ ap (λ (x : Result (List ℕ)). x >>= record_by which) (read_is layout body r says v e)
+      result_by_lem which body ∙ ap (λ (l : Layout). reading l body >>= record_by which) (sym same) ∙ ap (λ (x : Reading (List ℕ)). x >>= record_by which) (read_is layout body r says v e)
 
-  pub result_bad : (why : Fault) → r.verdict ≡ Faulty why → result_by which body ≡ bad why
+  pub result_bad : (why : Fault) → r.verdict ≡ Faulty why → result_by which body ≡ Err why
   result_bad why e = result_is (Faulty why) e
 
   pub result_made : r.verdict ≡ Fine → result_by which body ≡ record_by which (take (length (fields layout)) r.values)
@@ -96,10 +97,10 @@ pub short_by : (body : List ℕ) (b : Bit) → 6 ≤ length body → bit_at (bit
 unfolding display_short least_bytes
 short_by body b h e = rw (le-ltb _ _ h) (ap (λ (x : Bit). is_one x && ltb (length body) 9) e)
 
-abbrev by_colour : List ℕ → Bit → Result Extension
+abbrev by_colour : List ℕ → Bit → Reading Extension
 by_colour body b = read_bit b >>= (λ colour. cond (eqb colour 1) (coloured_of body) (plain_of body))
 
-pub display_short_lem : (body : List ℕ) → display_short body ≡ true → display_of body ≡ bad Short
+pub display_short_lem : (body : List ℕ) → display_short body ≡ true → display_of body ≡ Err Short
 unfolding display_of
 display_short_lem body e = ap (λ (t : Bool). refuse_if t Short >> by_colour body (bit_at (bits_of body) 8)) e
 

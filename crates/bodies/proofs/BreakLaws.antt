@@ -1,4 +1,5 @@
 -- Reading a header, a display extension or any extension refuses exactly where its body breaks what document 01 says of it.
+use Rattle.std.proofs.Common.{Ok, Err}
 use Prim.Native.Nat.{ℕ, ◌≤◌, ◌<◌}
 use mathlib.Core.Path.{◌≡◌, refl, sym, ap, ◌∙◌, subst}
 use mathlib.Core.Logic.{◌≢◌, inl, inr, ◌↔◌}
@@ -9,7 +10,7 @@ use native.Mathlib.Omega.{arith}
 use borrow.Author.Tests.{eqb-true, eqb-false, ltb-true, lt-ltb}
 use lib.Dec.{eqb}
 use lib.ListN.{length}
-use Rattle.answers.proofs.ResultLaws.{not_bad}
+use Rattle.answers.proofs.ResultLaws.{not_err}
 use Rattle.answers.specs.Answers.{Carried, refused, SHORT, VALUE}
 use Rattle.bits.specs.Bits.{bits_of, bit_at, read_on, read_at}
 use Rattle.bits.specs.declared.Bit.{Bit}
@@ -18,9 +19,9 @@ use Rattle.bits.proofs.TestLaws.{by_test, and_true}
 use Rattle.layout.specs.Layouts.{fields}
 use Rattle.bodies.specs.Records.{header_record, plain_record, coloured_record, copyright_record}
 use Rattle.layout.specs.Obeys.{Fits}
-use Rattle.layout.specs.Reader.{Result, short}
+use Rattle.layout.specs.Reader.{Reading, short}
 use Rattle.bodies.specs.Reader.{record_of, header_result, plain_of, coloured_of, copyright_of, is_one, display_short, display_of, number_of, not_copyright, by_number, extension_result, extension_of}
-use Rattle.answers.specs.Results.{good, bad, ◌>>=◌}
+use Rattle.answers.specs.Results.{◌>>=◌}
 use Rattle.bodies.specs.Answers.{value_number, fault_number, fault_bit, answer_of, Extension, display, copyright}
 use Rattle.layout.specs.Breaks.{Breaks}
 use Rattle.bodies.specs.Breaks.{ShortDisplay, BreaksDisplay, short_display, coloured, plain, BreaksExtension, empty}
@@ -50,32 +51,32 @@ copyright_made vs f = (_, ap copyright_record (spelled 11 vs (fits_length (field
 
 -- a record is refused exactly where the body breaks its layout
 module _ {A : Type 0} (layout : Layout) (make : List ℕ → Option A) (made : (vs : List ℕ) → Fits (fields layout) vs → (a : A) × (make vs ≡ some a)) (body : List ℕ) (why : Fault) where
-  record_breaks : (record_of layout make body ≡ bad why) ↔ Breaks layout body why
+  record_breaks : (record_of layout make body ≡ Err why) ↔ Breaks layout body why
   record_breaks = ((λ e. breaks_if layout body why (record_bad layout make body why made e)), λ b. bad_record layout make body why (if_breaks layout body why b))
 
-  wrapped_breaks : (wrap : A → Extension) → ((record_of layout make body >>= (λ a. good (wrap a))) ≡ bad why) ↔ Breaks layout body why
+  wrapped_breaks : (wrap : A → Extension) → ((record_of layout make body >>= (λ a. Ok (wrap a))) ≡ Err why) ↔ Breaks layout body why
   wrapped_breaks wrap = (
     (λ e. record_breaks.0 (wrapped_bad (record_of layout make body) wrap why e)),
-    λ b. ap (λ (r : Result A). r >>= (λ a. good (wrap a))) (record_breaks.1 b),
+    λ b. ap (λ (r : Reading A). r >>= (λ a. Ok (wrap a))) (record_breaks.1 b),
   )
 
-pub header_bad : (body : List ℕ) (why : Fault) → (header_result body ≡ bad why) ↔ Breaks Header body why
+pub header_bad : (body : List ℕ) (why : Fault) → (header_result body ≡ Err why) ↔ Breaks Header body why
 header_bad = record_breaks Header header_record header_made
 
-plain_bad : (body : List ℕ) (why : Fault) → (plain_of body ≡ bad why) ↔ Breaks Display body why
+plain_bad : (body : List ℕ) (why : Fault) → (plain_of body ≡ Err why) ↔ Breaks Display body why
 unfolding plain_of
 plain_bad body why = wrapped_breaks Display plain_record plain_made body why display
 
-coloured_bad : (body : List ℕ) (why : Fault) → (coloured_of body ≡ bad why) ↔ Breaks Coloured body why
+coloured_bad : (body : List ℕ) (why : Fault) → (coloured_of body ≡ Err why) ↔ Breaks Coloured body why
 unfolding coloured_of
 coloured_bad body why = wrapped_breaks Coloured coloured_record coloured_made body why display
 
-copyright_bad : (body : List ℕ) (why : Fault) → (copyright_of body ≡ bad why) ↔ Breaks Copyright body why
+copyright_bad : (body : List ℕ) (why : Fault) → (copyright_of body ≡ Err why) ↔ Breaks Copyright body why
 unfolding copyright_of
 copyright_bad body why = wrapped_breaks Copyright copyright_record copyright_made body why copyright
 
 -- a result that is bad exactly for what is broken is refused with the number and the bit of that
-pub refused_iff : {A : Type 0} (r : Result A) (Broken : Fault → Type 0) → ((why : Fault) → (r ≡ bad why) ↔ Broken why) → (n : ℕ) (carried : List Carried) →
+pub refused_iff : {A : Type 0} (r : Reading A) (Broken : Fault → Type 0) → ((why : Fault) → (r ≡ Err why) ↔ Broken why) → (n : ℕ) (carried : List Carried) →
     (answer_of r ≡ refused n carried) ↔ ((why : Fault) × Broken why × (n ≡ fault_number why) × (carried ≡ fault_bit why))
 refused_iff r Broken iff n carried = let a = answer_refused r n carried in (
   (λ e. let (why, b, m, c) = a.0 e in (why, (iff why).0 b, m, c)),
@@ -116,7 +117,7 @@ module _ (body : List ℕ) (long : ¬ ShortDisplay body) where
   display_by_lem : (given : ℕ) → ColourGiven body given → display_of body ≡ cond (eqb given 1) (coloured_of body) (plain_of body)
   display_by_lem given c = display_long body (bit.Is given) ((long_iff body).1 long) c
 
-  display_breaks : (why : Fault) → display_of body ≡ bad why → BreaksDisplay body why
+  display_breaks : (why : Fault) → display_of body ≡ Err why → BreaksDisplay body why
   display_breaks why e =
       let (given, c, small) = colour_bit in
       by_test (eqb given 1)
@@ -128,51 +129,51 @@ module _ (body : List ℕ) (long : ¬ ShortDisplay body) where
       let none : given ≡ 0 = omega arith in
       plain long (rw none at c) ((plain_bad body why).0 (rw f at (sym (display_by_lem given c) ∙ e))))
 
-pub display_bad : (body : List ℕ) (why : Fault) → (display_of body ≡ bad why) ↔ BreaksDisplay body why
+pub display_bad : (body : List ℕ) (why : Fault) → (display_of body ≡ Err why) ↔ BreaksDisplay body why
 display_bad body why = (from_result, to_result)
   where
-    from_result : display_of body ≡ bad why → BreaksDisplay body why
+    from_result : display_of body ≡ Err why → BreaksDisplay body why
     from_result e =
         by_test (display_short body)
-        (λ t. let s : bad Short ≡ bad why = sym (display_short_lem body t) ∙ e in short_display ((short_iff body).0 t) (cc))
+        (λ t. let s : Err Short ≡ Err why = sym (display_short_lem body t) ∙ e in short_display ((short_iff body).0 t) (cc))
         (λ f. display_breaks body ((long_iff body).0 f) why e)
 
-    to_result : BreaksDisplay body why → display_of body ≡ bad why
-    to_result (short_display s e) = display_short_lem body ((short_iff body).1 s) ∙ ap bad (sym e)
+    to_result : BreaksDisplay body why → display_of body ≡ Err why
+    to_result (short_display s e) = display_short_lem body ((short_iff body).1 s) ∙ ap Err (sym e)
     to_result (coloured long c b) = display_by_lem body long 1 c ∙ (coloured_bad body why).1 b
     to_result (plain long c b) = display_by_lem body long 0 c ∙ (plain_bad body why).1 b
 
 -- ── extensions ──
 
 -- a body with a byte has a number
-pub number_there : (body : List ℕ) → body ≢ [] → (n : ℕ) × (number_of body ≡ good n)
+pub number_there : (body : List ℕ) → body ≢ [] → (n : ℕ) × (number_of body ≡ Ok n)
 number_there body h = let (n, k) = has_number body h in (n, (number_iff body n).1 k)
 
-number_breaks : (scope : Scope) (body : List ℕ) (n : ℕ) (why : Fault) → HasNumber body n → not_copyright scope body n ≡ bad why → BreaksExtension scope body why
+number_breaks : (scope : Scope) (body : List ℕ) (n : ℕ) (why : Fault) → HasNumber body n → not_copyright scope body n ≡ Err why → BreaksExtension scope body why
 number_breaks Head body n why i e =
     by_test (eqb n 2)
     (λ t. breaks.display (subst (HasNumber body) (eqb-true n 2 t) i) refl ((display_bad body why).0 (rw t at e)))
-    (λ f. not_bad (rw f at e))
-number_breaks Picture body n why i e = not_bad e
+    (λ f. not_err (rw f at e))
+number_breaks Picture body n why i e = not_err e
 
-extension_breaks : (scope : Scope) (body : List ℕ) (why : Fault) → extension_result scope body ≡ bad why → BreaksExtension scope body why
+extension_breaks : (scope : Scope) (body : List ℕ) (why : Fault) → extension_result scope body ≡ Err why → BreaksExtension scope body why
 unfolding extension_result by_number
 extension_breaks scope [] why e = unfold read_at read_on bits_of in empty refl (cc)
 extension_breaks scope (byte ∷ body) why e =
     let bytes = byte ∷ body in
     let (n, i) = has_number bytes (λ z. let y : ◌≡◌ {A = ℕ} 0 1 = cc (ap length z) in absurd (omega arith)) in
-    let b : by_number scope bytes n ≡ bad why = rw ((number_iff bytes n).1 i) at e in
+    let b : by_number scope bytes n ≡ Err why = rw ((number_iff bytes n).1 i) at e in
     by_test (eqb n 4)
     (λ t. breaks.copyright (subst (HasNumber bytes) (eqb-true n 4 t) i) ((copyright_bad bytes why).0 (rw t at b)))
     (λ f. number_breaks scope bytes n why i (rw f at b))
 
-breaks_extension : (scope : Scope) (body : List ℕ) (why : Fault) → BreaksExtension scope body why → extension_result scope body ≡ bad why
+breaks_extension : (scope : Scope) (body : List ℕ) (why : Fault) → BreaksExtension scope body why → extension_result scope body ≡ Err why
 unfolding extension_result by_number
 breaks_extension scope body why (empty e f) = unfold read_at read_on bits_of in rw (e, f)
 breaks_extension scope body why (breaks.copyright i b) = rw ((number_iff body 4).1 i) ((copyright_bad body why).1 b)
 breaks_extension scope body why (breaks.display i e b) = rw ((number_iff body 2).1 i, e) ((display_bad body why).1 b)
 
-pub extension_bad : (scope : Scope) (body : List ℕ) (why : Fault) → (extension_result scope body ≡ bad why) ↔ BreaksExtension scope body why
+pub extension_bad : (scope : Scope) (body : List ℕ) (why : Fault) → (extension_result scope body ≡ Err why) ↔ BreaksExtension scope body why
 extension_bad scope body why = (extension_breaks scope body why, breaks_extension scope body why)
 
 -- ── SHORT of a display extension ──

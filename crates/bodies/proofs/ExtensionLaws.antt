@@ -1,4 +1,5 @@
 -- What an answer is given for: the bodies that obey, by their number and colour bit.
+use Rattle.std.proofs.Common.{Result, Ok, Err}
 use Prim.Native.Nat.{ℕ, zero, suc, ◌+◌, ◌*◌, ◌<◌}
 use mathlib.Core.Path.{◌≡◌, refl, sym, ap, ◌∙◌, subst}
 use mathlib.Core.Logic.{◌≢◌, ◌↔◌}
@@ -21,10 +22,9 @@ use Rattle.layout.specs.Obeys.{Fits, Obeys}
 use Rattle.bodies.specs.Bodies.{HeaderBody, DisplayBody, plain, coloured, CopyrightBody}
 use Rattle.bodies.specs.Extensions.{HasNumber, ColourGiven}
 use Rattle.layout.specs.Breaks.{Holds}
-use Rattle.layout.specs.Reader.{Result, read_value, values_of, reading}
+use Rattle.layout.specs.Reader.{Reading, read_value, values_of, reading}
 use Rattle.bodies.specs.Reader.{recorded, record_of, header_of, plain_of, coloured_of, copyright_of, display_short, display_of, number_of, not_copyright, by_number, extension_result, extension_of}
-use Rattle.answers.specs.Results as results
-use Rattle.answers.specs.Results.{good, bad, ◌>>=◌}
+use Rattle.answers.specs.Results.{◌>>=◌}
 use Rattle.bodies.specs.Answers.{fault_number, fault_bit, answer_of, Extension, display, copyright, opaque}
 use Rattle.layout.specs.declared.Field.{Field}
 use Rattle.layout.specs.declared.Layout.{Layout}
@@ -40,55 +40,55 @@ use Rattle.bodies.proofs.NumberLaws.{number_iff, number_one}
 use Rattle.layout.proofs.ReadingLaws.{value_good}
 use Rattle.layout.proofs.ObeyLaws.{obeys_if, if_obeys}
 use Rattle.answers.proofs.OutcomeLaws.{not_done, not_refused, done_one}
-use Rattle.answers.proofs.ResultLaws.{not_good, not_bad, good_same, bad_same, bind_good}
+use Rattle.answers.proofs.ResultLaws.{not_ok, not_err, ok_same, err_same, bind_ok}
 use Rattle.layout.proofs.BreakLaws.{held_read}
 use Rattle.bodies.proofs.AnswerLaws.{short_by, display_short_lem, display_long, not_short, colour_there}
 
 -- ── answers and results ──
 
-pub answer_done : {A : Type 0} (r : Result A) (a : A) → answer_of r ≡ done a → r ≡ good a
+pub answer_done : {A : Type 0} (r : Reading A) (a : A) → answer_of r ≡ done a → r ≡ Ok a
 unfolding answer_of
-answer_done (good b) a e = ap good (done_one e)
-answer_done (bad why) a e = not_done e
+answer_done (Ok b) a e = ap Ok (done_one e)
+answer_done (Err why) a e = not_done e
 
-pub answer_refused : {A : Type 0} (r : Result A) (n : ℕ) (carried : List Carried) →
-    (answer_of r ≡ refused n carried) ↔ ((why : Fault) × (r ≡ bad why) × (n ≡ fault_number why) × (carried ≡ fault_bit why))
+pub answer_refused : {A : Type 0} (r : Reading A) (n : ℕ) (carried : List Carried) →
+    (answer_of r ≡ refused n carried) ↔ ((why : Fault) × (r ≡ Err why) × (n ≡ fault_number why) × (carried ≡ fault_bit why))
 unfolding answer_of
-answer_refused (good a) n carried = (not_refused, λ h. not_bad h.1)
-answer_refused (bad f) n carried = ((λ e. (f, refl, cc, cc)), λ h. ap answer_of h.1 ∙ rw (← h.2, ← h.3))
+answer_refused (Ok a) n carried = (not_refused, λ h. not_err h.1)
+answer_refused (Err f) n carried = ((λ e. (f, refl, cc, cc)), λ h. ap answer_of h.1 ∙ rw (← h.2, ← h.3))
 
 -- ── records ──
 
-recorded_good : {A : Type 0} (o : Option A) (a : A) → recorded o ≡ good a → o ≡ some a
-recorded_good none a e = not_good e
-recorded_good (some b) a e = ap some (good_same e)
+recorded_good : {A : Type 0} (o : Option A) (a : A) → recorded o ≡ Ok a → o ≡ some a
+recorded_good none a e = not_ok e
+recorded_good (some b) a e = ap some (ok_same e)
 
-pub record_if : {A : Type 0} (layout : Layout) (make : List ℕ → Option A) (body : List ℕ) (a : A) → record_of layout make body ≡ good a →
+pub record_if : {A : Type 0} (layout : Layout) (make : List ℕ → Option A) (body : List ℕ) (a : A) → record_of layout make body ≡ Ok a →
     (vs : List ℕ) × Obeys layout body vs × (make vs ≡ some a)
 unfolding record_of
 record_if layout make body a e =
-    let r = bind_good (reading layout body) _ a e in
+    let r = bind_ok (reading layout body) _ a e in
     (r.0, obeys_if layout body r.0 r.1, recorded_good (make r.0) a r.2)
 
-pub if_record : {A : Type 0} (layout : Layout) (make : List ℕ → Option A) (body : List ℕ) (a : A) (vs : List ℕ) → Obeys layout body vs → make vs ≡ some a → record_of layout make body ≡ good a
+pub if_record : {A : Type 0} (layout : Layout) (make : List ℕ → Option A) (body : List ℕ) (a : A) (vs : List ℕ) → Obeys layout body vs → make vs ≡ some a → record_of layout make body ≡ Ok a
 unfolding record_of
-if_record layout make body a vs h m = ap (λ (r : Result (List ℕ)). r >>= (λ us. recorded (make us))) (if_obeys layout body vs h) ∙ ap recorded m
+if_record layout make body a vs h m = ap (λ (r : Reading (List ℕ)). r >>= (λ us. recorded (make us))) (if_obeys layout body vs h) ∙ ap recorded m
 
 -- values that fit make a record, so a record is refused exactly where its body is
 pub record_bad : {A : Type 0} (layout : Layout) (make : List ℕ → Option A) (body : List ℕ) (why : Fault) → ((vs : List ℕ) → Fits (fields layout) vs → (a : A) × (make vs ≡ some a)) →
-    record_of layout make body ≡ bad why → reading layout body ≡ bad why
+    record_of layout make body ≡ Err why → reading layout body ≡ Err why
 unfolding record_of
 record_bad {A} layout make body why makes e = go (reading layout body) refl e
   where
-    go : (r : Result (List ℕ)) → reading layout body ≡ r → (r >>= (λ vs. recorded (make vs))) ≡ bad why → r ≡ bad why
-    go (good vs) q x =
+    go : (r : Reading (List ℕ)) → reading layout body ≡ r → (r >>= (λ vs. recorded (make vs))) ≡ Err why → r ≡ Err why
+    go (Ok vs) q x =
         let m = makes vs (obeys_if layout body vs q).fits in
-        not_bad {A = A} (sym (ap recorded m.1) ∙ x)
-    go (bad f) q x = ap bad (bad_same {A = A} x)
+        not_err {A = A} (sym (ap recorded m.1) ∙ x)
+    go (Err f) q x = ap Err (err_same {A = A} x)
 
-pub bad_record : {A : Type 0} (layout : Layout) (make : List ℕ → Option A) (body : List ℕ) (why : Fault) → reading layout body ≡ bad why → record_of layout make body ≡ bad why
+pub bad_record : {A : Type 0} (layout : Layout) (make : List ℕ → Option A) (body : List ℕ) (why : Fault) → reading layout body ≡ Err why → record_of layout make body ≡ Err why
 unfolding record_of
-bad_record layout make body why e = ap (λ (r : Result (List ℕ)). r >>= (λ us. recorded (make us))) e
+bad_record layout make body why e = ap (λ (r : Reading (List ℕ)). r >>= (λ us. recorded (make us))) e
 
 pub header_made : (vs : List ℕ) → Fits (fields Header) vs → (h : SequenceHeader) × (header_record vs ≡ some h)
 unfolding header_record fields
@@ -104,58 +104,58 @@ coloured_made vs f = (_, ap coloured_record (spelled 11 vs (fits_length (fields 
 
 -- ── what a body's fields are ──
 
-value_read : (bits : List ℕ) (fs : List Field) (at : ℕ) (vs : List ℕ) (i : ℕ) → values_of fs at bits ≡ good vs → i < length fs →
-    read_at bits (at + bit_count (take i fs)) (width_of (get_or fs i marker)) ≡ good (get_or vs i 0)
+value_read : (bits : List ℕ) (fs : List Field) (at : ℕ) (vs : List ℕ) (i : ℕ) → values_of fs at bits ≡ Ok vs → i < length fs →
+    read_at bits (at + bit_count (take i fs)) (width_of (get_or fs i marker)) ≡ Ok (get_or vs i 0)
 unfolding values_of
 value_read bits [] at vs i e h = absurd (omega arith)
 value_read bits (f ∷ fs) at vs zero e h =
-    let first = bind_good (read_value (read_at bits at (width_of f))) _ vs e in
-    let later = bind_good (values_of fs (at + width_of f) bits) _ vs first.2 in
+    let first = bind_ok (read_value (read_at bits at (width_of f))) _ vs e in
+    let later = bind_ok (values_of fs (at + width_of f) bits) _ vs first.2 in
     let z : at + 0 ≡ at = omega arith in
-    rw z (value_good _ _ first.1 ∙ ap (λ (l : List ℕ). good (get_or l 0 0)) (good_same later.2))
+    rw z (value_good _ _ first.1 ∙ ap (λ (l : List ℕ). Ok (get_or l 0 0)) (ok_same later.2))
 value_read bits (f ∷ fs) at vs (suc i) e h =
-    let first = bind_good (read_value (read_at bits at (width_of f))) _ vs e in
-    let later = bind_good (values_of fs (at + width_of f) bits) _ vs first.2 in
+    let first = bind_ok (read_value (read_at bits at (width_of f))) _ vs e in
+    let later = bind_ok (values_of fs (at + width_of f) bits) _ vs first.2 in
     let z : at + (width_of f + bit_count (take i fs)) ≡ at + width_of f + bit_count (take i fs) = omega arith in
-    rw z (value_read bits fs (at + width_of f) later.0 i later.1 (omega arith) ∙ ap (λ (l : List ℕ). good (get_or l (suc i) 0)) (good_same later.2))
+    rw z (value_read bits fs (at + width_of f) later.0 i later.1 (omega arith) ∙ ap (λ (l : List ℕ). Ok (get_or l (suc i) 0)) (ok_same later.2))
 
 -- a body's field i has value i
 held_field : (layout : Layout) (body vs end : List ℕ) → Holds layout body vs end → (i : ℕ) → i < length (fields layout) →
-    read_at (bits_of body) (bit_count (take i (fields layout))) (width_of (get_or (fields layout) i marker)) ≡ good (get_or vs i 0)
+    read_at (bits_of body) (bit_count (take i (fields layout))) (width_of (get_or (fields layout) i marker)) ≡ Ok (get_or vs i 0)
 held_field layout body vs end h i k =
     let z : bit_count (take i (fields layout)) ≡ 0 + bit_count (take i (fields layout)) = omega arith in
     rw z (value_read (bits_of body) (fields layout) 0 vs i (held_read layout body vs end h) k)
 
-bit_value : (l : List ℕ) (at v : ℕ) (m : List ℕ) → drop at l ≡ m → read_on 0 1 m ≡ good v → bit_at l at ≡ bit.Is v
+bit_value : (l : List ℕ) (at v : ℕ) (m : List ℕ) → drop at l ≡ m → read_on 0 1 m ≡ Ok v → bit_at l at ≡ bit.Is v
 unfolding read_on
-bit_value l at v [] d e = not_good e
+bit_value l at v [] d e = not_ok e
 bit_value l at v (b ∷ m) d e =
-    let s : 0 * 2 + b ≡ v = good_same e in
+    let s : 0 * 2 + b ≡ v = ok_same e in
     let t : b ≡ v = omega arith in
     sym (bit_here l at b m d) ∙ ap bit.Is t
 
-colour_bit : (body : List ℕ) (v : ℕ) → read_at (bits_of body) 8 1 ≡ good v → bit_at (bits_of body) 8 ≡ bit.Is v
+colour_bit : (body : List ℕ) (v : ℕ) → read_at (bits_of body) 8 1 ≡ Ok v → bit_at (bits_of body) 8 ≡ bit.Is v
 unfolding read_at
 colour_bit body v e = bit_value (bits_of body) 8 v (drop 8 (bits_of body)) refl e
 
 -- ── display extensions ──
 
-wrapped : {A : Type 0} (r : Result A) (wrap : A → Extension) (x : Extension) → (r >>= (λ a. good (wrap a))) ≡ good x → (a : A) × (r ≡ good a) × (x ≡ wrap a)
-wrapped r wrap x e = let b = bind_good r _ x e in (b.0, b.1, sym (good_same b.2))
+wrapped : {A : Type 0} (r : Reading A) (wrap : A → Extension) (x : Extension) → (r >>= (λ a. Ok (wrap a))) ≡ Ok x → (a : A) × (r ≡ Ok a) × (x ≡ wrap a)
+wrapped r wrap x e = let b = bind_ok r _ x e in (b.0, b.1, sym (ok_same b.2))
 
-pub wrapped_bad : {A : Type 0} (r : Result A) (wrap : A → Extension) (why : Fault) → (r >>= (λ a. good (wrap a))) ≡ bad why → r ≡ bad why
-wrapped_bad (good a) wrap why e = not_bad e
-wrapped_bad (bad f) wrap why e = ap bad (bad_same {A = Extension} e)
+pub wrapped_bad : {A : Type 0} (r : Reading A) (wrap : A → Extension) (why : Fault) → (r >>= (λ a. Ok (wrap a))) ≡ Err why → r ≡ Err why
+wrapped_bad (Ok a) wrap why e = not_err e
+wrapped_bad (Err f) wrap why e = ap Err (err_same {A = Extension} e)
 
 -- what a display extension's body gives
-display_if : (body : List ℕ) (x : Extension) → HasNumber body 2 → display_of body ≡ good x → (d : DisplayExtension) × (x ≡ display d) × DisplayBody body d
+display_if : (body : List ℕ) (x : Extension) → HasNumber body 2 → display_of body ≡ Ok x → (d : DisplayExtension) × (x ≡ display d) × DisplayBody body d
 unfolding plain_of coloured_of
-display_if body x n e = by_test (display_short body) (λ t. not_good (sym (display_short_lem body t) ∙ e)) long
+display_if body x n e = by_test (display_short body) (λ t. not_ok (sym (display_short_lem body t) ∙ e)) long
   where
     long : display_short body ≡ false → (d : DisplayExtension) × (x ≡ display d) × DisplayBody body d
     long f =
         let (given, c, small) = colour_there body (not_short body f) in
-        let r : cond (eqb given 1) (coloured_of body) (plain_of body) ≡ good x = sym (display_long body (bit.Is given) f c) ∙ e in
+        let r : cond (eqb given 1) (coloured_of body) (plain_of body) ≡ Ok x = sym (display_long body (bit.Is given) f c) ∙ e in
         by_test (eqb given 1)
         (λ t.
         let w = wrapped (record_of Coloured coloured_record body) display x (rw t at r) in
@@ -168,34 +168,34 @@ display_if body x n e = by_test (display_short body) (λ t. not_good (sym (displ
         let o = record_if Display plain_record body w.0 w.1 in
         (w.0, w.2, plain n (subst (ColourGiven body) none c) o.0 o.1 o.2))
 
-if_display : (body : List ℕ) (d : DisplayExtension) → DisplayBody body d → HasNumber body 2 × (display_of body ≡ good (display d))
+if_display : (body : List ℕ) (d : DisplayExtension) → DisplayBody body d → HasNumber body 2 × (display_of body ≡ Ok (display d))
 unfolding plain_of coloured_of least_bytes
 if_display body d (plain n c vs h m) = (
   n,
   display_long body (bit.Is 0) (short_by body (bit.Is 0) h.long c) c
-      ∙ ap (λ (r : Result DisplayExtension). r >>= (λ d. good (display d))) (if_record Display plain_record body d vs h m),
+      ∙ ap (λ (r : Reading DisplayExtension). r >>= (λ d. Ok (display d))) (if_record Display plain_record body d vs h m),
 )
 if_display body d (coloured n c vs h m) =
     let long = h.long in (
       n,
       display_long body (bit.Is 1) (short_by body (bit.Is 1) (omega arith) c ∙ le-ltb (length body) 9 h.long) c
-          ∙ ap (λ (r : Result DisplayExtension). r >>= (λ d. good (display d))) (if_record Coloured coloured_record body d vs h m),
+          ∙ ap (λ (r : Reading DisplayExtension). r >>= (λ d. Ok (display d))) (if_record Coloured coloured_record body d vs h m),
     )
 
 -- ── copyright extensions ──
 
-copyright_if : (body : List ℕ) (x : Extension) → HasNumber body 4 → copyright_of body ≡ good x → (c : CopyrightExtension) × (x ≡ copyright c) × CopyrightBody body c
+copyright_if : (body : List ℕ) (x : Extension) → HasNumber body 4 → copyright_of body ≡ Ok x → (c : CopyrightExtension) × (x ≡ copyright c) × CopyrightBody body c
 unfolding copyright_of
 copyright_if body x n e =
     let w = wrapped (record_of Copyright copyright_record body) copyright x e in
     let r = record_if Copyright copyright_record body w.0 w.1 in
     (w.0, w.2, record { number = n; values = r.0; obeys = r.1; recorded = r.2 })
 
-if_copyright : (body : List ℕ) (c : CopyrightExtension) → CopyrightBody body c → HasNumber body 4 × (copyright_of body ≡ good (copyright c))
+if_copyright : (body : List ℕ) (c : CopyrightExtension) → CopyrightBody body c → HasNumber body 4 × (copyright_of body ≡ Ok (copyright c))
 unfolding copyright_of
 if_copyright body c h = (
   h.number,
-  ap (λ (r : Result CopyrightExtension). r >>= (λ c. good (copyright c))) (if_record Copyright copyright_record body c h.values h.obeys h.recorded),
+  ap (λ (r : Reading CopyrightExtension). r >>= (λ c. Ok (copyright c))) (if_record Copyright copyright_record body c h.values h.obeys h.recorded),
 )
 
 -- ── extensions ──
@@ -206,19 +206,19 @@ pub data Answers (scope : Scope) (body : List ℕ) (x : Extension) : Type 0 wher
   as_copyright : (c : CopyrightExtension) → x ≡ copyright c → CopyrightBody body c → Answers scope body x
   as_opaque : (n : ℕ) → x ≡ opaque n → HasNumber body n → n ≢ 4 → (scope ≡ Head → n ≢ 2) → Answers scope body x
 
-by_scope : (scope : Scope) (body : List ℕ) (n : ℕ) (x : Extension) → HasNumber body n → n ≢ 4 → not_copyright scope body n ≡ good x → Answers scope body x
+by_scope : (scope : Scope) (body : List ℕ) (n : ℕ) (x : Extension) → HasNumber body n → n ≢ 4 → not_copyright scope body n ≡ Ok x → Answers scope body x
 by_scope Head body n x r f e =
     by_test (eqb n 2)
-    (λ t. let h = display_if body x (subst (HasNumber body) (eqb-true n 2 t) r) (sym (ap (λ (b : Bool). cond b (display_of body) (good (opaque n))) t) ∙ e) in as_display h.0 refl h.1 h.2)
+    (λ t. let h = display_if body x (subst (HasNumber body) (eqb-true n 2 t) r) (sym (ap (λ (b : Bool). cond b (display_of body) (Ok (opaque n))) t) ∙ e) in as_display h.0 refl h.1 h.2)
     (λ o.
-    as_opaque n (sym (good_same (sym (ap (λ (b : Bool). cond b (display_of body) (good (opaque n))) o) ∙ e))) r f
+    as_opaque n (sym (ok_same (sym (ap (λ (b : Bool). cond b (display_of body) (Ok (opaque n))) o) ∙ e))) r f
     (λ p. eqb-false n 2 o))
-by_scope Picture body n x r f e = as_opaque n (sym (good_same e)) r f (λ p. let z : ◌≡◌ {A = ℕ} 0 1 = cc in absurd (omega arith))
+by_scope Picture body n x r f e = as_opaque n (sym (ok_same e)) r f (λ p. let z : ◌≡◌ {A = ℕ} 0 1 = cc in absurd (omega arith))
 
-pub extension_if : (scope : Scope) (body : List ℕ) (x : Extension) → extension_result scope body ≡ good x → Answers scope body x
+pub extension_if : (scope : Scope) (body : List ℕ) (x : Extension) → extension_result scope body ≡ Ok x → Answers scope body x
 unfolding extension_result by_number
 extension_if scope body x e =
-    let b = bind_good (read_value (number_of body)) _ x e in
+    let b = bind_ok (read_value (number_of body)) _ x e in
     let n = b.0 in
     let r = (number_iff body n).0 (value_good (number_of body) n b.1) in
     by_test (eqb n 4)
@@ -227,21 +227,21 @@ extension_if scope body x e =
 
 by_number_lem : (scope : Scope) (body : List ℕ) (n : ℕ) → HasNumber body n → extension_result scope body ≡ by_number scope body n
 unfolding extension_result
-by_number_lem scope body n h = ap (λ (x : results.Result ℕ ℕ). read_value x >>= by_number scope body) ((number_iff body n).1 h)
+by_number_lem scope body n h = ap (λ (x : Result ℕ ℕ). read_value x >>= by_number scope body) ((number_iff body n).1 h)
 
-pub if_as_display : (body : List ℕ) (d : DisplayExtension) → DisplayBody body d → extension_result Head body ≡ good (display d)
+pub if_as_display : (body : List ℕ) (d : DisplayExtension) → DisplayBody body d → extension_result Head body ≡ Ok (display d)
 unfolding by_number
 if_as_display body d h = let i = if_display body d h in by_number_lem Head body 2 i.0 ∙ i.1
 
-pub if_as_copyright : (scope : Scope) (body : List ℕ) (c : CopyrightExtension) → CopyrightBody body c → extension_result scope body ≡ good (copyright c)
+pub if_as_copyright : (scope : Scope) (body : List ℕ) (c : CopyrightExtension) → CopyrightBody body c → extension_result scope body ≡ Ok (copyright c)
 unfolding by_number
 if_as_copyright scope body c h = let i = if_copyright body c h in by_number_lem scope body 4 i.0 ∙ i.1
 
-other_number : (scope : Scope) (body : List ℕ) (n : ℕ) → (scope ≡ Head → n ≢ 2) → not_copyright scope body n ≡ good (opaque n)
-other_number Head body n f = ap (λ (b : Bool). cond b (display_of body) (good (opaque n))) (ne_eqb n 2 (f refl))
+other_number : (scope : Scope) (body : List ℕ) (n : ℕ) → (scope ≡ Head → n ≢ 2) → not_copyright scope body n ≡ Ok (opaque n)
+other_number Head body n f = ap (λ (b : Bool). cond b (display_of body) (Ok (opaque n))) (ne_eqb n 2 (f refl))
 other_number Picture body n f = refl
 
-pub if_as_opaque : (scope : Scope) (body : List ℕ) (n : ℕ) → HasNumber body n → n ≢ 4 → (scope ≡ Head → n ≢ 2) → extension_result scope body ≡ good (opaque n)
+pub if_as_opaque : (scope : Scope) (body : List ℕ) (n : ℕ) → HasNumber body n → n ≢ 4 → (scope ≡ Head → n ≢ 2) → extension_result scope body ≡ Ok (opaque n)
 unfolding by_number
 if_as_opaque scope body n e f g =
     by_number_lem scope body n e
@@ -333,7 +333,7 @@ answers_by : (scope : Scope) (body : List ℕ) (x : Extension) → extension_of 
 unfolding extension_of
 answers_by scope body x e = extension_if scope body x (answer_done (extension_result scope body) x e)
 
-by_answers : (scope : Scope) (body : List ℕ) (x : Extension) → extension_result scope body ≡ good x → extension_of scope body ≡ done x
+by_answers : (scope : Scope) (body : List ℕ) (x : Extension) → extension_result scope body ≡ Ok x → extension_of scope body ≡ done x
 unfolding extension_of answer_of
 by_answers scope body x e = ap answer_of e
 

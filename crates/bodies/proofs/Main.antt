@@ -1,4 +1,5 @@
 -- What is proved of bodies beyond the contracts of the functions.
+use Rattle.std.proofs.Common.{Result, Ok, Err}
 use Prim.Native.Nat.{ℕ, ◌/◌, ◌%◌, ◌<◌}
 use mathlib.Core.Path.{◌≡◌, sym, ap}
 use mathlib.Core.Logic.{◌↔◌, ◌≢◌}
@@ -16,7 +17,6 @@ use Rattle.bodies.specs.Bodies.{HeaderBody, DisplayBody, CopyrightBody}
 use Rattle.layout.specs.Breaks.{Holds, Breaks}
 use Rattle.bodies.specs.Breaks.{ShortDisplay, BreaksExtension}
 use Rattle.bodies.specs.Reader.{header_result, header_of, display_short, extension_result, extension_of}
-use Rattle.answers.specs.Results.{Result, good, bad}
 use Rattle.bodies.specs.Answers.{fault_number, fault_bit, answer_of, header_says, display, copyright, opaque, extension_says}
 use Rattle.layout.specs.declared.Layout.TheVariants.{Header, Display, Coloured, Copyright}
 use Rattle.layout.specs.declared.Fault.{Fault}
@@ -33,7 +33,7 @@ use Rattle.bodies.proofs.ExtensionLaws as laws
 use Rattle.bodies.proofs.SaysLaws as says
 
 -- What reading gives is answered, and nothing else is: what is said of answers below holds of readings.
-pub answered_iff : {A : Type 0} (r : Result Fault A) (a : A) → (answer_of r ≡ done a) ↔ (r ≡ good a)
+pub answered_iff : {A : Type 0} (r : Result A Fault) (a : A) → (answer_of r ≡ done a) ↔ (r ≡ Ok a)
 unfolding answer_of
 answered_iff r a = (laws.answer_done r a, ap answer_of)
 
@@ -48,7 +48,7 @@ pub rate_parts : (n high low : ℕ) → low < 262144 → (n ≡ bit_rate high lo
 rate_parts n high low h = ((λ e. (omega arith, omega arith)), λ e. omega arith)
 
 -- Reading finds the body faulty exactly for what breaks the layout, field and bit with it.
-pub header_faulty_iff : (body : List ℕ) (why : Fault) → (header_result body ≡ bad why) ↔ Breaks Header body why
+pub header_faulty_iff : (body : List ℕ) (why : Fault) → (header_result body ≡ Err why) ↔ Breaks Header body why
 header_faulty_iff = breaks.header_bad
 
 -- A refusal has the number and the bit of that.
@@ -86,7 +86,7 @@ is_opaque_iff scope body n h =
     let o = opaque_iff scope body n in ((λ e. let k = t.0 e in o.1 (h, k.0, k.1)), λ e. let k = o.0 e in t.1 (k.1, k.2))
 
 -- Reading finds an extension faulty exactly for what breaks it where it stands, SHORT of a display extension first.
-pub extension_faulty_iff : (scope : Scope) (body : List ℕ) (why : Fault) → (extension_result scope body ≡ bad why) ↔ BreaksExtension scope body why
+pub extension_faulty_iff : (scope : Scope) (body : List ℕ) (why : Fault) → (extension_result scope body ≡ Err why) ↔ BreaksExtension scope body why
 extension_faulty_iff = breaks.extension_bad
 
 -- A refusal has the number and the bit of that.

@@ -1,4 +1,5 @@
 -- An extension's number, read, is the one whose bits the body begins with; so are the tests of it.
+use Rattle.std.proofs.Common.{Result, Ok, Err}
 use Prim.Native.Nat.{ℕ, ◌<◌}
 use mathlib.Core.Path.{◌≡◌, refl, sym, ap, ◌∙◌}
 use mathlib.Core.Logic.{◌≢◌, ◌↔◌}
@@ -10,8 +11,7 @@ use lib.Dec.{eqb}
 use lib.ListN.{length, take, drop, take-append-drop}
 use lib.Seq.{take-length, take_at}
 use Rattle.bits.specs.Bits.{bits_in, bits_of, payload, read_on, read_at}
-use Rattle.answers.specs.Results.{Result, good, bad}
-use Rattle.answers.proofs.ResultLaws.{good_same}
+use Rattle.answers.proofs.ResultLaws.{ok_same}
 use Rattle.bits.proofs.TestLaws.{by_test, contrary, and_true}
 use Rattle.bits.proofs.BitLaws.{length_in}
 use Rattle.bits.proofs.Main.{read_exactly}
@@ -52,7 +52,7 @@ bits_iff body n = (
 )
 
 -- the read's number is the body's
-pub number_iff : (body : List ℕ) (n : ℕ) → (number_of body ≡ good n) ↔ HasNumber body n
+pub number_iff : (body : List ℕ) (n : ℕ) → (number_of body ≡ Ok n) ↔ HasNumber body n
 number_iff body n =
     let all : payload body (length (bits_of body)) ≡ bits_of body = take-length (bits_of body) in
     let r = read_exactly body (length (bits_of body)) 0 4 n in (
@@ -63,7 +63,7 @@ number_iff body n =
 
 -- a body has one number
 pub number_one : (body : List ℕ) (m n : ℕ) → HasNumber body m → HasNumber body n → m ≡ n
-number_one body m n h k = good_same (sym ((number_iff body m).1 h) ∙ (number_iff body n).1 k)
+number_one body m n h k = ok_same (sym ((number_iff body m).1 h) ∙ (number_iff body n).1 k)
 
 -- a body with a byte has one
 pub has_number : (body : List ℕ) → body ≢ [] → (n : ℕ) × HasNumber body n
@@ -81,12 +81,12 @@ number_byte (byte ∷ body) n h e = let z : ◌≡◌ {A = ℕ} 0 1 = cc in omeg
 
 -- whether the number that was read is n
 abbrev pub is_read : ℕ → Result ℕ ℕ → Bool
-is_read n (good m) = eqb m n
-is_read n (bad m) = false
+is_read n (Ok m) = eqb m n
+is_read n (Err m) = false
 
-not_read : (n : ℕ) (r : Result ℕ ℕ) → r ≢ good n → is_read n r ≡ false
-not_read n (good m) h = ne_eqb m n (λ e. h (ap good e))
-not_read n (bad m) h = refl
+not_read : (n : ℕ) (r : Result ℕ ℕ) → r ≢ Ok n → is_read n r ≡ false
+not_read n (Ok m) h = ne_eqb m n (λ e. h (ap Ok e))
+not_read n (Err m) h = refl
 
 pub numbered_read : (body : List ℕ) (n : ℕ) → n < 16 → numbered n body ≡ is_read n (number_of body)
 numbered_read body n k =
@@ -103,15 +103,15 @@ opaque_number Head n = not (eqb n 4) && not (eqb n 2)
 opaque_number Picture n = not (eqb n 4)
 
 abbrev pub opaque_read : Scope → Result ℕ ℕ → Bool
-opaque_read scope (good n) = opaque_number scope n
-opaque_read scope (bad m) = true
+opaque_read scope (Ok n) = opaque_number scope n
+opaque_read scope (Err m) = true
 
 pub opaque_read_lem : (scope : Scope) (body : List ℕ) (r : Result ℕ ℕ) → number_of body ≡ r → is_opaque scope body ≡ opaque_read scope r
 unfolding is_opaque
-opaque_read_lem Head body (good n) e = rw (numbered_read body 4 (omega arith), numbered_read body 2 (omega arith), e)
-opaque_read_lem Head body (bad m) e = rw (numbered_read body 4 (omega arith), numbered_read body 2 (omega arith), e)
-opaque_read_lem Picture body (good n) e = rw (numbered_read body 4 (omega arith), e)
-opaque_read_lem Picture body (bad m) e = rw (numbered_read body 4 (omega arith), e)
+opaque_read_lem Head body (Ok n) e = rw (numbered_read body 4 (omega arith), numbered_read body 2 (omega arith), e)
+opaque_read_lem Head body (Err m) e = rw (numbered_read body 4 (omega arith), numbered_read body 2 (omega arith), e)
+opaque_read_lem Picture body (Ok n) e = rw (numbered_read body 4 (omega arith), e)
+opaque_read_lem Picture body (Err m) e = rw (numbered_read body 4 (omega arith), e)
 
 opaque_number_lem : (scope : Scope) (n : ℕ) → (opaque_number scope n ≡ true) ↔ ((n ≢ 4) × (scope ≡ Head → n ≢ 2))
 opaque_number_lem Head n = (
@@ -126,5 +126,5 @@ opaque_number_lem Picture n = (
 -- an extension of number n is opaque where n is neither 4 nor, in a head, 2
 pub opaque_test : (scope : Scope) (body : List ℕ) (n : ℕ) → HasNumber body n → (is_opaque scope body ≡ true) ↔ ((n ≢ 4) × (scope ≡ Head → n ≢ 2))
 opaque_test scope body n h =
-    let e = opaque_read_lem scope body (good n) ((number_iff body n).1 h) in
+    let e = opaque_read_lem scope body (Ok n) ((number_iff body n).1 h) in
     let i = opaque_number_lem scope n in ((λ t. i.0 (sym e ∙ t)), λ k. e ∙ i.1 k)

@@ -1,11 +1,11 @@
 -- Answers are one-to-one: each can be told from what it gives, and that from what it says.
+use Rattle.std.proofs.Common.{Result, Ok, Err}
 use Prim.Native.Nat.{ℕ}
 use mathlib.Core.Path.{◌≡◌, refl, ap}
 use mathlib.Core.List.{List, [], ◌∷◌}
 use mathlib.Core.Bool.{cond}
 use lib.Dec.{eqb}
 use Rattle.answers.specs.Answers.{Carried, at_offset, at_bit, missing, Outcome, done, refused, OneToOne, SHORT, MARKER, STUFFING}
-use Rattle.answers.specs.Results.{Result, good, bad}
 use Rattle.answers.proofs.OutcomeLaws.{undone}
 use Rattle.bodies.specs.Answers.{value_number, fault_number, fault_bit, answer_of, header_gives, header_says, Extension, display, copyright, opaque, extension_gives, extension_says}
 use Rattle.bodies.specs.Reader.{header_result, header_of, extension_result, extension_of}
@@ -60,23 +60,23 @@ fault_of_lem (Value field at) = value_of field at
 fault_of_lem Stuffing = refl
 
 -- a value or a fault from what is said of it
-result_of : {A : Type 0} → Outcome A → Result Fault A
-result_of (done a) = good a
-result_of (refused n carried) = bad (fault_of n carried)
+result_of : {A : Type 0} → Outcome A → Result A Fault
+result_of (done a) = Ok a
+result_of (refused n carried) = Err (fault_of n carried)
 
-result_of_lem : {A : Type 0} (r : Result Fault A) → result_of (answer_of r) ≡ r
+result_of_lem : {A : Type 0} (r : Result A Fault) → result_of (answer_of r) ≡ r
 unfolding result_of answer_of
-result_of_lem (good a) = refl
-result_of_lem (bad fault) = ap bad (fault_of_lem fault)
+result_of_lem (Ok a) = refl
+result_of_lem (Err fault) = ap Err (fault_of_lem fault)
 
 pub answer_one : {A : Type 0} → OneToOne (answer_of {A = A})
 answer_one = undone answer_of result_of result_of_lem
 
 -- ── answers ──
 
-abbrev header_from : Result Fault SequenceHeader → HeaderAnswer
-header_from (good h) = header.Header h
-header_from (bad fault) = header.Refused fault
+abbrev header_from : Result SequenceHeader Fault → HeaderAnswer
+header_from (Ok h) = header.Header h
+header_from (Err fault) = header.Refused fault
 
 header_from_lem : (a : HeaderAnswer) → header_from (header_gives a) ≡ a
 unfolding header_gives
@@ -87,11 +87,11 @@ pub header_says_lem : OneToOne header_says
 unfolding header_says
 header_says_lem a b e = undone header_gives header_from header_from_lem a b (answer_one (header_gives a) (header_gives b) e)
 
-abbrev extension_from : Result Fault Extension → ExtensionAnswer
-extension_from (good (display d)) = extension.Display d
-extension_from (good (copyright c)) = extension.Copyright c
-extension_from (good (opaque n)) = extension.Opaque n
-extension_from (bad fault) = extension.Refused fault
+abbrev extension_from : Result Extension Fault → ExtensionAnswer
+extension_from (Ok (display d)) = extension.Display d
+extension_from (Ok (copyright c)) = extension.Copyright c
+extension_from (Ok (opaque n)) = extension.Opaque n
+extension_from (Err fault) = extension.Refused fault
 
 extension_from_lem : (a : ExtensionAnswer) → extension_from (extension_gives a) ≡ a
 unfolding extension_gives

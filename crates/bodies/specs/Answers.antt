@@ -1,7 +1,6 @@
 -- Document 01, "Rows", and document 02, E1: reading a header or extension body answers its record or its refusal.
-use Rattle.std.specs.Prelude.{ℕ, List, [], ◌∷◌}
+use Rattle.std.specs.Prelude.{ℕ, List, [], ◌∷◌, Result, Ok, Err}
 use Rattle.answers.specs.Answers.{Carried, at_bit, Outcome, done, refused, SHORT, MARKER, STUFFING, VALUE_WIDTH, VALUE_HEIGHT, VALUE_CHROMA, VALUE_PRECISION, VALUE_ASPECT, VALUE_RATE, VALUE_TRANSFER, VALUE_MATRIX, VALUE_STEREO, VALUE_COPYRIGHT_OWNER, VALUE_COPYRIGHT_NUMBER}
-use Rattle.answers.specs.Results.{Result, good, bad}
 use Rattle.layout.specs.declared.JudgedField.{JudgedField}
 use Rattle.layout.specs.declared.JudgedField.TheVariants.{Width, Height, Chroma, Precision, Aspect, Rate, Transfer, Matrix, Stereo, CopyrightOwner, CopyrightNumber}
 use Rattle.layout.specs.declared.Fault.{Fault}
@@ -45,16 +44,16 @@ fault_bit (fault.Value field at) = at_bit at ∷ []
 fault_bit fault.Stuffing = []
 
 -- a value, or what is wrong with the body, in the papers' terms
-unfoldable pub answer_of : {A : Type 0} → Result Fault A → Outcome A
-answer_of (good a) = done a
-answer_of (bad fault) = refused (fault_number fault) (fault_bit fault)
+unfoldable pub answer_of : {A : Type 0} → Result A Fault → Outcome A
+answer_of (Ok a) = done a
+answer_of (Err fault) = refused (fault_number fault) (fault_bit fault)
 
 -- ── sequence header ──
 
 -- what an answer gives: the record, or what is wrong with the body
-unfoldable pub header_gives : HeaderAnswer → Result Fault SequenceHeader
-header_gives (headerAnswer.Header h) = good h
-header_gives (headerAnswer.Refused fault) = bad fault
+unfoldable pub header_gives : HeaderAnswer → Result SequenceHeader Fault
+header_gives (headerAnswer.Header h) = Ok h
+header_gives (headerAnswer.Refused fault) = Err fault
 
 -- what it says, in the papers' terms
 unfoldable pub header_says : HeaderAnswer → Outcome SequenceHeader
@@ -69,11 +68,11 @@ pub data Extension : Type 0 where
   opaque : ℕ → Extension
 
 -- what an answer gives: the record or the number, or what is wrong with the body
-unfoldable pub extension_gives : ExtensionAnswer → Result Fault Extension
-extension_gives (extensionAnswer.Display d) = good (display d)
-extension_gives (extensionAnswer.Copyright c) = good (copyright c)
-extension_gives (extensionAnswer.Opaque number) = good (opaque number)
-extension_gives (extensionAnswer.Refused fault) = bad fault
+unfoldable pub extension_gives : ExtensionAnswer → Result Extension Fault
+extension_gives (extensionAnswer.Display d) = Ok (display d)
+extension_gives (extensionAnswer.Copyright c) = Ok (copyright c)
+extension_gives (extensionAnswer.Opaque number) = Ok (opaque number)
+extension_gives (extensionAnswer.Refused fault) = Err fault
 
 -- what it says, in the papers' terms
 unfoldable pub extension_says : ExtensionAnswer → Outcome Extension

@@ -1,4 +1,5 @@
 -- What filing answers of what is left.
+use Rattle.std.proofs.Common.{Ok}
 use Prim.Native.Nat.{ℕ, ◌*◌, ◌≤◌}
 use mathlib.Core.Path.{◌≡◌, refl, sym, ◌∙◌, ap}
 use mathlib.Core.List.{List, []}
@@ -6,7 +7,6 @@ use native.Mathlib.Omega.{arith}
 use lib.ListN.{length, drop, length-drop}
 use Rattle.answers.specs.Answers.{done}
 use Rattle.answers.specs.Limits.{longest_stream}
-use Rattle.answers.specs.Results.{good}
 use Rattle.grammar.specs.Grammar.{Reading, Reads, units}
 use Rattle.grammar.specs.Rows.{placed_units, rows_from, rows}
 use Rattle.grammar.specs.Reader.{stop_at, walk, said, filing_into}
@@ -32,7 +32,7 @@ pub read_filed : (s : List ℕ) (q : Reading) → Reads s q → length s ≤ lon
 unfolding filed filing_into
 read_filed s q h short lent room =
     let ms = placed_units q in
-    let w : walk s ≡ good ms = (walked_iff s ms).1 (short, (q, h, refl)) in
+    let w : walk s ≡ Ok ms = (walked_iff s ms).1 (short, (q, h, refl)) in
     let m : length ms ≡ length (rows q) = sym (rows_length 0 ms) in
     let i = into_good s lent ms w (omega arith) in
     record {

@@ -1,4 +1,5 @@
 -- What filing answers, in the grammar's words.
+use Rattle.std.proofs.Common.{Ok, Err}
 use Prim.Native.Nat.{ℕ, ◌≤◌, ◌<◌, ◌*◌}
 use mathlib.Core.Path.{◌≡◌, refl, sym, ◌∙◌, ap}
 use mathlib.Core.Logic.{◌↔◌}
@@ -10,9 +11,9 @@ use borrow.Author.Tests.{lt-ltb, le-ltb, le-leb, ltb-false}
 use native.Mathlib.Omega.{arith}
 use Rattle.answers.specs.Answers.{Carried, at_offset, at_bit, missing, Outcome, done, refused, OneToOne, FULL}
 use Rattle.answers.specs.Limits.{longest_stream}
-use Rattle.answers.specs.Results.{good, bad, map_good}
+use Rattle.answers.specs.Results.{map_ok}
 use Rattle.answers.proofs.OutcomeLaws.{undone}
-use Rattle.answers.proofs.ResultLaws.{not_good, not_bad, good_same, bad_same}
+use Rattle.answers.proofs.ResultLaws.{not_ok, not_err, ok_same, err_same}
 use Rattle.bits.proofs.TestLaws.{by_test}
 use Rattle.bodies.specs.Answers.{fault_number, fault_bit}
 use Rattle.bodies.proofs.BreakLaws.{value_over}
@@ -53,32 +54,32 @@ module _ (s : List ℕ) where
   unfolding walk
   walk_short h = rw (le-ltb longest_stream (length s) h)
 
-  pub walk_good : (ms : List Placed) → walk s ≡ good ms → (length s ≤ longest_stream) × (walk_of_any s ≡ good ms)
+  pub walk_good : (ms : List Placed) → walk s ≡ Ok ms → (length s ≤ longest_stream) × (walk_of_any s ≡ Ok ms)
   unfolding walk
-  walk_good ms e = by_test (ltb longest_stream (length s)) (λ t. not_good (rw t at e)) (λ f. (ltb-false longest_stream (length s) f, rw f at e))
+  walk_good ms e = by_test (ltb longest_stream (length s)) (λ t. not_ok (rw t at e)) (λ f. (ltb-false longest_stream (length s) f, rw f at e))
 
 module _ (s : List ℕ) (lent : ℕ) where
-  pub into_bad : (x : Stopped) → walk s ≡ bad x → walk_into s lent ≡ bad x
+  pub into_bad : (x : Stopped) → walk s ≡ Err x → walk_into s lent ≡ Err x
   unfolding walk_into
   into_bad x e = ap (within lent) e
 
-  pub into_full : (ms : List Placed) → walk s ≡ good ms → lent < 3 * length ms → walk_into s lent ≡ stop_at reason.Full 0
+  pub into_full : (ms : List Placed) → walk s ≡ Ok ms → lent < 3 * length ms → walk_into s lent ≡ stop_at reason.Full 0
   unfolding walk_into
   into_full ms e k = ap (within lent) e ∙ rw (lt-ltb lent (3 * length ms) k)
 
-  pub into_good : (ms : List Placed) → walk s ≡ good ms → 3 * length ms ≤ lent → walk_into s lent ≡ good ms
+  pub into_good : (ms : List Placed) → walk s ≡ Ok ms → 3 * length ms ≤ lent → walk_into s lent ≡ Ok ms
   into_good = grammar_lent.into_good s lent
 
-good_into : (s : List ℕ) (lent : ℕ) (ms : List Placed) → walk_into s lent ≡ good ms → (walk s ≡ good ms) × (3 * length ms ≤ lent)
+good_into : (s : List ℕ) (lent : ℕ) (ms : List Placed) → walk_into s lent ≡ Ok ms → (walk s ≡ Ok ms) × (3 * length ms ≤ lent)
 good_into = grammar_lent.good_into
 
 -- ── what the first pass says ──
 
-pub said_checked : (w : Walk) (c : Checked) → checked_gives c ≡ map_good length w → checked_says c ≡ said length w
-said_checked (good ms) (checked.Good n) e = ap done (good_same e)
-said_checked (good ms) (checked.Refused r) e = not_good e
-said_checked (bad x) (checked.Good n) e = not_bad e
-said_checked (bad x) (checked.Refused r) e = ap (λ (x : Stopped). refused (reason_number x.reason) (carries x.reason x.offset)) (bad_same e)
+pub said_checked : (w : Walk) (c : Checked) → checked_gives c ≡ map_ok length w → checked_says c ≡ said length w
+said_checked (Ok ms) (checked.Good n) e = ap done (ok_same e)
+said_checked (Ok ms) (checked.Refused r) e = not_ok e
+said_checked (Err x) (checked.Good n) e = not_err e
+said_checked (Err x) (checked.Refused r) e = ap (λ (x : Stopped). refused (reason_number x.reason) (carries x.reason x.offset)) (err_same e)
 
 -- ── answers and their numbers ──
 
@@ -156,7 +157,7 @@ checked_one_to_one = undone checked_says back is
 -- of the outcome
 module _ (s : List ℕ) (lent : ℕ) where
   -- the units of a reading are those that the walk finds
-  read_walked : (x : Reading) → length s ≤ longest_stream → Reads s x → walk s ≡ good (placed_units x)
+  read_walked : (x : Reading) → length s ≤ longest_stream → Reads s x → walk s ≡ Ok (placed_units x)
   read_walked x h k = (walked_iff s (placed_units x)).1 (h, (x, k, refl))
 
   filed_if : (n : ℕ) → filed s lent ≡ done (record { units = n }) → (length s ≤ longest_stream) × ReadingOf s n × (3 * n ≤ lent)

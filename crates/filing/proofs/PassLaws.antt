@@ -1,4 +1,5 @@
 -- The laws of the two passes.
+use Rattle.std.proofs.Common.{Result, Ok, Err}
 use Prim.Native.Nat.{ℕ, zero, suc, ◌≤◌, ◌<◌, ◌+◌, ◌-◌, ◌*◌}
 use mathlib.Core.Path.{◌≡◌, refl, sym, ◌∙◌, ap, subst}
 use mathlib.Core.Logic.{inl, inr}
@@ -11,8 +12,8 @@ use borrow.Author.Tests.{eqb-true, eqb-false}
 use native.Mathlib.Numerals.{add-one, add-two}
 use native.Mathlib.Omega.{arith}
 use Rattle.answers.specs.Limits.{longest_stream}
-use Rattle.answers.specs.Results.{Result, good, bad, map_good}
-use Rattle.answers.proofs.ResultLaws.{not_good, good_same, map_good_lem}
+use Rattle.answers.specs.Results.{map_ok}
+use Rattle.answers.proofs.ResultLaws.{not_ok, ok_same, map_ok_lem}
 use Rattle.bits.proofs.TestLaws.{by_test}
 use Rattle.startcode.specs.Kinds.{kind_of}
 use Rattle.startcode.specs.Prefix.{begins, next_prefix}
@@ -44,16 +45,16 @@ any_left s b = rw b
 -- ── counting ──
 
 -- k units, and those that are left
-abbrev pub counted : ℕ → Walk → Result Stopped ℕ
-counted k w = map_good (λ ms. k + length ms) w
+abbrev pub counted : ℕ → Walk → Result ℕ Stopped
+counted k w = map_ok (λ ms. k + length ms) w
 
 count_unit : (k : ℕ) (m : Placed) (w : Walk) → counted k (add_unit m w) ≡ counted (k + 1) w
-count_unit k m (good ms) = ap good (omega arith)
-count_unit k m (bad s) = refl
+count_unit k m (Ok ms) = ap Ok (omega arith)
+count_unit k m (Err s) = refl
 
-count_start : (w : Walk) → map_good length w ≡ counted 0 w
-count_start (good ms) = ap good (omega arith)
-count_start (bad s) = refl
+count_start : (w : Walk) → map_ok length w ≡ counted 0 w
+count_start (Ok ms) = ap Ok (omega arith)
+count_start (Err s) = refl
 
 -- ── spans that are kept ──
 
@@ -100,7 +101,7 @@ pub record Checking (s spans : List ℕ) (q : State) (at k : ℕ) : Type 0 where
   pub inside : at ≤ length s
   pub few : k ≤ at
   pub here : at < length s → begins (drop at s) ≡ true
-  pub count : map_good length (walk_of_any s) ≡ counted k (left s q at)
+  pub count : map_ok length (walk_of_any s) ≡ counted k (left s q at)
 
 pub checking_start : (s spans : List ℕ) → begins s ≡ true → Checking s spans Start 0 0
 checking_start s spans b =
@@ -110,7 +111,7 @@ checking_start s spans b =
       inside = omega arith;
       few = omega arith;
       here = λ h. b;
-      count = ap (map_good length) (any_left s b) ∙ count_start (left s Start 0);
+      count = ap (map_ok length) (any_left s b) ∙ count_start (left s Start 0);
     }
 
 pub checking_next : (s spans : List ℕ) (q : State) (at k : ℕ) (next : State) (end n : ℕ) (spans' : List ℕ) → Checking s spans q at k → Advanced s q at next end n →
@@ -131,24 +132,24 @@ module _ (s spans : List ℕ) (q : State) (at k : ℕ) (c : Checking s spans q a
   at_end : at ≡ length s
   at_end = omega (arith, c.inside)
 
-  end_count : map_good length (walk_of_any s) ≡ counted k (cond (final q) (good []) (stop_at Unended at))
+  end_count : map_ok length (walk_of_any s) ≡ counted k (cond (final q) (Ok []) (stop_at Unended at))
   end_count =
-      c.count ∙ ap (counted k) (ap (left s q) at_end ∙ left_end s q ∙ ap (λ (n : ℕ). cond (final q) (good []) (stop_at Unended n)) (sym at_end))
+      c.count ∙ ap (counted k) (ap (left s q) at_end ∙ left_end s q ∙ ap (λ (n : ℕ). cond (final q) (Ok []) (stop_at Unended n)) (sym at_end))
 
-  pub end_good : final q ≡ true → good k ≡ map_good length (walk_of_any s)
-  end_good f = let e : k ≡ k + 0 = omega arith in ap good e ∙ sym (end_count ∙ rw f)
+  pub end_good : final q ≡ true → Ok k ≡ map_ok length (walk_of_any s)
+  end_good f = let e : k ≡ k + 0 = omega arith in ap Ok e ∙ sym (end_count ∙ rw f)
 
-  pub end_unended : final q ≡ false → stop_at Unended at ≡ map_good length (walk_of_any s)
+  pub end_unended : final q ≡ false → stop_at Unended at ≡ map_ok length (walk_of_any s)
   end_unended f = sym (end_count ∙ rw f)
 
 -- no prefix at the start
-pub no_code : (s : List ℕ) → begins s ≡ false → stop_at NoCode 0 ≡ map_good length (walk_of_any s)
+pub no_code : (s : List ℕ) → begins s ≡ false → stop_at NoCode 0 ≡ map_ok length (walk_of_any s)
 unfolding walk_of_any
 no_code s f = rw f
 
 -- what the first pass found wrong
-pub passed_refused : (s spans : List ℕ) (r : Checked) (why : Reason) (at : ℕ) → checked_gives r ≡ stop_at why at → stop_at why at ≡ map_good length (walk_of_any s) → Passed s spans r
-passed_refused s spans (checked.Good n) why at e f = not_good (sym e)
+pub passed_refused : (s spans : List ℕ) (r : Checked) (why : Reason) (at : ℕ) → checked_gives r ≡ stop_at why at → stop_at why at ≡ map_ok length (walk_of_any s) → Passed s spans r
+passed_refused s spans (checked.Good n) why at e f = not_ok (sym e)
 passed_refused s spans (checked.Refused w) why at e f = record { answer = e ∙ f; kept = tt }
 
 -- ── scopes ──
@@ -180,10 +181,10 @@ pub record Writing (s spans lent rows : List ℕ) (p : Scope) (at i : ℕ) : Typ
   pub rest : List Placed
   pub state : State
   pub scope_is : p ≡ extension_scope state
-  pub walked : walk_of_any s ≡ good all
+  pub walked : walk_of_any s ≡ Ok all
   pub short : length s ≤ longest_stream
   pub room : 3 * length all ≤ length lent
-  pub rest_is : left s state at ≡ good rest
+  pub rest_is : left s state at ≡ Ok rest
   pub count : i + length rest ≡ length all
   pub made : take (i * 3) rows ++ words (rows_from at rest) ≡ words (rows_from 0 all)
   pub later : drop (i * 3) rows ≡ drop (i * 3) lent
@@ -211,9 +212,9 @@ unit_here s spans lent rows p at i w h =
     }
 
 -- a stream that is filed begins with a prefix
-begun : (s : List ℕ) (ms : List Placed) → walk_of_any s ≡ good ms → begins s ≡ true
+begun : (s : List ℕ) (ms : List Placed) → walk_of_any s ≡ Ok ms → begins s ≡ true
 unfolding walk_of_any
-begun s ms e = by_test (begins s) (λ t. t) (λ f. not_good (rw f at e))
+begun s ms e = by_test (begins s) (λ t. t) (λ f. not_ok (rw f at e))
 
 pub writing_start : (s spans lent : List ℕ) → Writable s spans lent → Writing s spans lent lent scope.Picture 0 0
 writing_start s spans lent w =
@@ -239,8 +240,8 @@ writing_start s spans lent w =
 
 -- one row more
 module _ (s spans lent rows : List ℕ) (p : Scope) (at i : ℕ) (next : State) (end n : ℕ) (w : Writing s spans lent rows p at i) (a : Advanced s w.state at next end n) where
-  next_units : (rest : List Placed) × (left s next end ≡ good rest) × (a.unit ∷ rest ≡ w.rest)
-  next_units = map_good_lem (λ ms. a.unit ∷ ms) (left s next end) w.rest (sym a.more ∙ w.rest_is)
+  next_units : (rest : List Placed) × (left s next end ≡ Ok rest) × (a.unit ∷ rest ≡ w.rest)
+  next_units = map_ok_lem (λ ms. a.unit ∷ ms) (left s next end) w.rest (sym a.more ∙ w.rest_is)
 
   pub writing_room : i * 3 + 3 ≤ length rows
   writing_room =
@@ -311,9 +312,9 @@ writing_end s spans lent rows p at i w h =
     sym (take-append-drop (i * 3) rows) ∙ ap (λ (x : List ℕ). x ++ drop (i * 3) rows) front ∙ ap (λ (x : List ℕ). words (rows_from 0 w.all) ++ x) (w.later ∙ ap (λ (x : ℕ). drop x lent) k)
     ∙ ap (λ (x : Walk). words_after (said (rows_from 0) x) lent) (sym w.walked)
   where
-    ended : (t : Bool) (ms : List Placed) → cond t (good []) (stop_at Unended (length s)) ≡ good ms → ms ≡ []
-    ended true ms e = sym (good_same e)
-    ended false ms e = not_good e
+    ended : (t : Bool) (ms : List Placed) → cond t (Ok []) (stop_at Unended (length s)) ≡ Ok ms → ms ≡ []
+    ended true ms e = sym (ok_same e)
+    ended false ms e = not_ok e
 
 -- three words are stored
 pub three_set : (l : List ℕ) (n a b c : ℕ) → n + 3 ≤ length l → set (set (set l n a) (n + 1) b) (n + 2) c ≡ take n l ++ (a ∷ b ∷ c ∷ drop (n + 3) l)

@@ -1,8 +1,8 @@
 -- What the private functions promise one another; no part of document 01.
-use Rattle.std.specs.Prelude.{ℕ, zero, suc, ◌+◌, ◌*◌, ◌≤◌, ◌<◌, ◌≡◌, List, cond, ltb, length, get_or}
+use Rattle.std.specs.Prelude.{ℕ, zero, suc, ◌+◌, ◌*◌, ◌≤◌, ◌<◌, ◌≡◌, List, cond, ltb, length, get_or, Result, Ok}
 use Rattle.answers.specs.Answers.{Outcome, done, refused}
 use Rattle.answers.specs.Limits.{longest_stream}
-use Rattle.answers.specs.Results.{Result, good, map_good}
+use Rattle.answers.specs.Results.{map_ok}
 use Rattle.startcode.specs.Prefix.{next_prefix}
 use Rattle.startcode.specs.declared.Kind.{Kind}
 use Rattle.startcode.specs.declared.Kind.TheVariants as kind
@@ -17,8 +17,8 @@ use Rattle.filing.specs.declared.Checked.TheVariants as checked
 use Rattle.filing.specs.declared.FilingAnswer.{FilingAnswer}
 
 -- the first pass: how many units, or why it stops and where
-abbrev pub checked_gives : Checked → Result Stopped ℕ
-checked_gives (checked.Good units) = good units
+abbrev pub checked_gives : Checked → Result ℕ Stopped
+checked_gives (checked.Good units) = Ok units
 checked_gives (checked.Refused r) = stop_at r.reason r.offset
 
 -- the offset of each unit of a good stream, by the number of units before it
@@ -45,7 +45,7 @@ KeptBy stream spans (checked.Refused r) = Unit {0}
 
 -- what the first pass answers, and the spans that it keeps
 pub record Passed (stream spans : List ℕ) (r : Checked) : Type 0 where
-  pub answer : checked_gives r ≡ map_good length (walk_of_any stream)
+  pub answer : checked_gives r ≡ map_ok length (walk_of_any stream)
   pub kept : KeptBy stream spans r
 
 -- the scope of the extensions after a unit of this kind
@@ -63,7 +63,7 @@ scope_after p (refused number carried) = p
 -- the stream is good and within the limit, the words suffice, and the spans kept are its units'
 pub record Writable (stream spans lent : List ℕ) : Type 0 where
   pub all : List Placed
-  pub walked : walk_of_any stream ≡ good all
+  pub walked : walk_of_any stream ≡ Ok all
   pub short : length stream ≤ longest_stream
   pub room : 3 * length all ≤ length lent
   pub kept : Kept stream spans (length all)

@@ -1,4 +1,5 @@
 -- Reading a body succeeds exactly where the grammar's rule for it holds.
+use Rattle.std.proofs.Common.{Ok}
 use Prim.Native.Nat.{ℕ}
 use mathlib.Core.Path.{◌≡◌, refl, sym, ◌∙◌, ap, subst}
 use mathlib.Core.Logic.{◌⊎◌, inl, inr, ◌↔◌}
@@ -9,7 +10,7 @@ use native.Mathlib.Omega.{arith}
 use borrow.Author.Tests.{eqb-true, eqb-false, eq-eqb, le-ltb}
 use lib.Dec.{eqb}
 use lib.ListN.{length}
-use Rattle.answers.proofs.ResultLaws.{not_good, bind_good}
+use Rattle.answers.proofs.ResultLaws.{not_ok, bind_ok}
 use Rattle.bits.specs.declared.Bit.TheVariants as bit
 use Rattle.bits.proofs.TestLaws.{by_test}
 use Rattle.layout.specs.Reader.{read_value}
@@ -19,7 +20,7 @@ use Rattle.bodies.proofs.NumberLaws.{number_iff, number_one, number_byte, number
 use Rattle.bodies.specs.Answers as answers
 use Rattle.layout.specs.Layouts.{fields, least_bytes}
 use Rattle.layout.specs.Obeys.{Fits, Obeys}
-use Rattle.answers.specs.Results.{good, ◌>>=◌}
+use Rattle.answers.specs.Results.{◌>>=◌}
 use Rattle.bodies.specs.Records.{header_record, plain_record, coloured_record, copyright_record}
 use Rattle.layout.specs.declared.Layout.{Layout}
 use Rattle.layout.specs.declared.Layout.TheVariants.{Header, Display, Coloured, Copyright}
@@ -37,15 +38,15 @@ use Rattle.grammar.specs.Grammar.{Extension, IsHeader, IsCopyright, IsDisplay}
 
 -- a record is read exactly where the body obeys with values that make it
 module _ {A : Type 0} (layout : Layout) (make : List ℕ → Option A) (body : List ℕ) where
-  pub record_good : (a : A) → (record_of layout make body ≡ good a) ↔ ((vs : List ℕ) × Obeys layout body vs × (make vs ≡ some a))
+  pub record_good : (a : A) → (record_of layout make body ≡ Ok a) ↔ ((vs : List ℕ) × Obeys layout body vs × (make vs ≡ some a))
   record_good a = (record_if layout make body a, λ h. if_record layout make body a h.0 h.1 h.2)
 
-pub header_good : (body : List ℕ) (header : SequenceHeader) → (header_result body ≡ good header) ↔ IsHeader body header
+pub header_good : (body : List ℕ) (header : SequenceHeader) → (header_result body ≡ Ok header) ↔ IsHeader body header
 header_good body header = record_good Header header_record body header
 
 -- ── numbers ──
 
-two_is : (body : List ℕ) (n : ℕ) → number_of body ≡ good n → numbered 2 body ≡ false → eqb n 2 ≡ false
+two_is : (body : List ℕ) (n : ℕ) → number_of body ≡ Ok n → numbered 2 body ≡ false → eqb n 2 ≡ false
 two_is body n e f = sym (numbered_by body n 2 (omega arith) ((number_iff body n).0 e)) ∙ f
 
 -- ── copyright and opaque extensions ──
@@ -53,31 +54,31 @@ two_is body n e f = sym (numbered_by body n 2 (omega arith) ((number_iff body n)
 -- an extension of one layout is read exactly where the body obeys, if values that fit make a record
 module _ {A : Type 0} (layout : Layout) (make : List ℕ → Option A) (wrap : A → answers.Extension) (body : List ℕ)
     (made : (vs : List ℕ) → Fits (fields layout) vs → (a : A) × (make vs ≡ some a)) where
-  layout_good : ((x : answers.Extension) × ((record_of layout make body >>= (λ a. good (wrap a))) ≡ good x)) ↔ ((vs : List ℕ) × Obeys layout body vs)
+  layout_good : ((x : answers.Extension) × ((record_of layout make body >>= (λ a. Ok (wrap a))) ≡ Ok x)) ↔ ((vs : List ℕ) × Obeys layout body vs)
   layout_good = (
-    (λ h. let r = bind_good (record_of layout make body) _ h.0 h.1 in let o = (record_good layout make body r.0).0 r.1 in (o.0, o.1)),
+    (λ h. let r = bind_ok (record_of layout make body) _ h.0 h.1 in let o = (record_good layout make body r.0).0 r.1 in (o.0, o.1)),
     λ h.
         let m = made h.0 h.1.fits in
-        (wrap m.0, ap (λ r. r >>= (λ a. good (wrap a))) ((record_good layout make body m.0).1 (h.0, h.1, m.1))),
+        (wrap m.0, ap (λ r. r >>= (λ a. Ok (wrap a))) ((record_good layout make body m.0).1 (h.0, h.1, m.1))),
   )
 
-copyright_good : (body : List ℕ) → ((x : answers.Extension) × (copyright_of body ≡ good x)) ↔ IsCopyright body
+copyright_good : (body : List ℕ) → ((x : answers.Extension) × (copyright_of body ≡ Ok x)) ↔ IsCopyright body
 unfolding copyright_of
 copyright_good body = layout_good Copyright copyright_record answers.copyright body copyright_made
 
 -- an extension that is no display extension where it stands
-module _ (body : List ℕ) (p : Scope) (plain : (n : ℕ) → number_of body ≡ good n → not_copyright p body n ≡ good (answers.opaque n)) where
-  extension_good : ((x : answers.Extension) × (extension_result p body ≡ good x)) ↔ Extension body
+module _ (body : List ℕ) (p : Scope) (plain : (n : ℕ) → number_of body ≡ Ok n → not_copyright p body n ≡ Ok (answers.opaque n)) where
+  extension_good : ((x : answers.Extension) × (extension_result p body ≡ Ok x)) ↔ Extension body
   unfolding extension_result by_number
   extension_good = (
     (λ h.
-        let r = bind_good (read_value (number_of body)) _ h.0 h.1 in
+        let r = bind_ok (read_value (number_of body)) _ h.0 h.1 in
         let n = value_good (number_of body) r.0 r.1 in
         record {
           some_byte = number_byte body r.0 ((number_iff body r.0).0 n);
           copyright = λ four.
               let f : r.0 ≡ 4 = number_one body r.0 4 ((number_iff body r.0).0 n) four in
-              let c : copyright_of body ≡ good h.0 = rw (eq-eqb r.0 4 f) at r.2 in
+              let c : copyright_of body ≡ Ok h.0 = rw (eq-eqb r.0 4 f) at r.2 in
               (copyright_good body).0 (h.0, c);
         }),
     λ h.
@@ -85,32 +86,32 @@ module _ (body : List ℕ) (p : Scope) (plain : (n : ℕ) → number_of body ≡
         let start : extension_result p body ≡ by_number p body n.0 = rw n.1 in
         by_test (eqb n.0 4)
         (λ t.
-        let four : number_of body ≡ good 4 = n.1 ∙ ap good (eqb-true n.0 4 t) in
+        let four : number_of body ≡ Ok 4 = n.1 ∙ ap Ok (eqb-true n.0 4 t) in
         let c = (copyright_good body).1 (h.copyright ((number_iff body 4).0 four)) in
         (c.0, start ∙ rw t c.1))
         (λ f. (answers.opaque n.0, start ∙ rw f (plain n.0 n.1))),
   )
 
 -- after a picture header
-pub picture_good : (body : List ℕ) → ((x : answers.Extension) × (extension_result scope.Picture body ≡ good x)) ↔ Extension body
+pub picture_good : (body : List ℕ) → ((x : answers.Extension) × (extension_result scope.Picture body ≡ Ok x)) ↔ Extension body
 picture_good body = extension_good body scope.Picture (λ n e. refl)
 
 -- in a group's head, where the number is not 2
-pub head_good : (body : List ℕ) → numbered 2 body ≡ false → ((x : answers.Extension) × (extension_result scope.Head body ≡ good x)) ↔ Extension body
+pub head_good : (body : List ℕ) → numbered 2 body ≡ false → ((x : answers.Extension) × (extension_result scope.Head body ≡ Ok x)) ↔ Extension body
 head_good body f = extension_good body scope.Head (λ n e. let two = two_is body n e f in rw two)
 
 -- ── display extensions ──
 
 -- a display extension is not short
-pub display_long : (body : List ℕ) (x : answers.Extension) → display_of body ≡ good x → display_short body ≡ false
+pub display_long : (body : List ℕ) (x : answers.Extension) → display_of body ≡ Ok x → display_short body ≡ false
 unfolding display_of
-display_long body x e = by_test (display_short body) (λ t. not_good (rw t at e)) (λ f. f)
+display_long body x e = by_test (display_short body) (λ t. not_ok (rw t at e)) (λ f. f)
 
-plain_good : (body : List ℕ) → ((x : answers.Extension) × (plain_of body ≡ good x)) ↔ ((vs : List ℕ) × Obeys Display body vs)
+plain_good : (body : List ℕ) → ((x : answers.Extension) × (plain_of body ≡ Ok x)) ↔ ((vs : List ℕ) × Obeys Display body vs)
 unfolding plain_of
 plain_good body = layout_good Display plain_record answers.display body plain_made
 
-coloured_good : (body : List ℕ) → ((x : answers.Extension) × (coloured_of body ≡ good x)) ↔ ((vs : List ℕ) × Obeys Coloured body vs)
+coloured_good : (body : List ℕ) → ((x : answers.Extension) × (coloured_of body ≡ Ok x)) ↔ ((vs : List ℕ) × Obeys Coloured body vs)
 unfolding coloured_of
 coloured_good body = layout_good Coloured coloured_record answers.display body coloured_made
 
@@ -125,14 +126,14 @@ coloured_display body vs c h =
     let l = h.long in
     laws.display_long body (bit.Is 1) (short_by body (bit.Is 1) (omega arith) c ∙ le-ltb (length body) 9 l) c
 
-pub display_good : (body : List ℕ) → ((x : answers.Extension) × (display_of body ≡ good x)) ↔ IsDisplay body
+pub display_good : (body : List ℕ) → ((x : answers.Extension) × (display_of body ≡ Ok x)) ↔ IsDisplay body
 display_good body = (from_result, λ h. from_layout h.0 h.1)
   where
-    from_result : ((x : answers.Extension) × (display_of body ≡ good x)) → IsDisplay body
+    from_result : ((x : answers.Extension) × (display_of body ≡ Ok x)) → IsDisplay body
     from_result (x, e) =
         let f = display_long body x e in
         let (given, c, small) = colour_there body (not_short body f) in
-        let r : cond (eqb given 1) (coloured_of body) (plain_of body) ≡ good x = sym (laws.display_long body (bit.Is given) f c) ∙ e in
+        let r : cond (eqb given 1) (coloured_of body) (plain_of body) ≡ Ok x = sym (laws.display_long body (bit.Is given) f c) ∙ e in
         by_test (eqb given 1)
         (λ t. let o = (coloured_good body).0 (x, rw t at r) in (o.0, inr (subst (ColourGiven body) (eqb-true given 1 t) c, o.1)))
         (λ g.
@@ -140,6 +141,6 @@ display_good body = (from_result, λ h. from_layout h.0 h.1)
         let none : given ≡ 0 = omega arith in
         let o = (plain_good body).0 (x, rw g at r) in (o.0, inl (subst (ColourGiven body) none c, o.1)))
 
-    from_layout : (vs : List ℕ) → (ColourGiven body 0 × Obeys Display body vs) ⊎ (ColourGiven body 1 × Obeys Coloured body vs) → (x : answers.Extension) × (display_of body ≡ good x)
+    from_layout : (vs : List ℕ) → (ColourGiven body 0 × Obeys Display body vs) ⊎ (ColourGiven body 1 × Obeys Coloured body vs) → (x : answers.Extension) × (display_of body ≡ Ok x)
     from_layout vs (inl (c, h)) = let x = (plain_good body).1 (vs, h) in (x.0, plain_display body vs c h ∙ x.1)
     from_layout vs (inr (c, h)) = let x = (coloured_good body).1 (vs, h) in (x.0, coloured_display body vs c h ∙ x.1)

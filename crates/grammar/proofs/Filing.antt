@@ -1,4 +1,5 @@
 -- A walk gives the units of a stream exactly where it has a reading, and they are that reading's; so are the rows.
+use Rattle.std.proofs.Common.{Ok, Err}
 use Prim.Native.Nat.{ℕ, ◌≤◌, ◌+◌}
 use mathlib.Core.Path.{◌≡◌, refl, sym, ◌∙◌, ap, subst}
 use mathlib.Core.Logic.{◌↔◌}
@@ -8,10 +9,9 @@ use lib.ListN.{length}
 use lib.Dec.{ltb}
 use borrow.Author.Tests.{ltb-false, le-ltb}
 use Rattle.answers.specs.Answers.{done}
-use Rattle.answers.specs.Results.{good, bad}
 use Rattle.bits.proofs.TestLaws.{by_test}
 use Rattle.answers.proofs.OutcomeLaws.{not_done, done_one}
-use Rattle.answers.proofs.ResultLaws.{not_good, good_same, map_good_lem}
+use Rattle.answers.proofs.ResultLaws.{not_ok, ok_same, map_ok_lem}
 use Rattle.bodies.specs.declared.Scope.{Scope}
 use Rattle.bodies.specs.declared.Scope.TheVariants as scope
 use Rattle.startcode.specs.Prefix.{begins}
@@ -60,37 +60,37 @@ more_walked q q' u cs ms ms' s e w = subst (Walked q (chunk u ∷ cs)) e
     (record { chunks_are = ap (λ (l : List (List ℕ)). chunk u ∷ l) w.chunks_are; accepts = (q', step_sound q u q' s, refl, w.accepts) })
 
 -- at the end the state decides
-walk_end : (q : State) (at : ℕ) → walk_from [] q at ≡ cond (final q) (good []) (stop_at Unended at)
+walk_end : (q : State) (at : ℕ) → walk_from [] q at ≡ cond (final q) (Ok []) (stop_at Unended at)
 unfolding walk_from
 walk_end q at = refl
 
-walked_sound : (cs : List (List ℕ)) (q : State) (at : ℕ) (ms : List Placed) → walk_from cs q at ≡ good ms → Walked q cs ms
+walked_sound : (cs : List (List ℕ)) (q : State) (at : ℕ) (ms : List Placed) → walk_from cs q at ≡ Ok ms → Walked q cs ms
 unfolding walk_from
 walked_sound [] q at ms e = let w = sym (walk_end q at) ∙ e in
-    by_test (final q) (λ t. let n : [] ≡ ms = good_same (rw t at w) in subst (Walked q []) n (record { chunks_are = refl; accepts = t })) (λ f. not_good (rw f at w))
-walked_sound ([] ∷ cs) q at ms e = not_good e
+    by_test (final q) (λ t. let n : [] ≡ ms = ok_same (rw t at w) in subst (Walked q []) n (record { chunks_are = refl; accepts = t })) (λ f. not_ok (rw f at w))
+walked_sound ([] ∷ cs) q at ms e = not_ok e
 walked_sound ((c ∷ b) ∷ cs) q at ms e = by_step (step q u) refl (λ q' ms'. walked_sound cs q' (at + length (bytes u)) ms') e
   where
     u : StreamUnit
     u = record { code = c; body = b }
 
-    by_step : (s : Step) → step q u ≡ s → ((q' : State) (ms' : List Placed) → walk_from cs q' (at + length (bytes u)) ≡ good ms' → Walked q' cs ms')
-        → continue s at (λ q'. add_unit (placed (scope_in q u) u) (walk_from cs q' (at + length (bytes u)))) ≡ good ms → Walked q ((c ∷ b) ∷ cs) ms
-    by_step (stop why) s ih e = not_good e
-    by_step (go q') s ih e = let a = map_good_lem (λ ms. placed (scope_in q u) u ∷ ms) (walk_from cs q' (at + length (bytes u))) ms e in more_walked q q' u cs ms a.0 s a.2 (ih q' a.0 a.1)
+    by_step : (s : Step) → step q u ≡ s → ((q' : State) (ms' : List Placed) → walk_from cs q' (at + length (bytes u)) ≡ Ok ms' → Walked q' cs ms')
+        → continue s at (λ q'. add_unit (placed (scope_in q u) u) (walk_from cs q' (at + length (bytes u)))) ≡ Ok ms → Walked q ((c ∷ b) ∷ cs) ms
+    by_step (stop why) s ih e = not_ok e
+    by_step (go q') s ih e = let a = map_ok_lem (λ ms. placed (scope_in q u) u ∷ ms) (walk_from cs q' (at + length (bytes u))) ms e in more_walked q q' u cs ms a.0 s a.2 (ih q' a.0 a.1)
 
-walked_complete : (ms : List Placed) (q : State) (at : ℕ) → Accepts q ms → walk_from (map chunk (map unit_of ms)) q at ≡ good ms
+walked_complete : (ms : List Placed) (q : State) (at : ℕ) → Accepts q ms → walk_from (map chunk (map unit_of ms)) q at ≡ Ok ms
 unfolding walk_from
 walked_complete [] q at a = rw a refl
 walked_complete (m ∷ ms) q at a = rw (step_complete a.1)
     (ap (add_unit (placed (scope_in q m.unit) m.unit)) (walked_complete ms a.0 (at + length (bytes m.unit)) a.3)
-    ∙ ap (λ (b : Scope). good (placed b m.unit ∷ ms)) (sym a.2))
+    ∙ ap (λ (b : Scope). Ok (placed b m.unit ∷ ms)) (sym a.2))
 
 -- ── streams of any length ──
 
-any_sound : (s : List ℕ) (ms : List Placed) → walk_of_any s ≡ good ms → (r : Reading) × Reads s r × (ms ≡ placed_units r)
+any_sound : (s : List ℕ) (ms : List Placed) → walk_of_any s ≡ Ok ms → (r : Reading) × Reads s r × (ms ≡ placed_units r)
 unfolding walk_of_any
-any_sound s ms e = by_test (begins s) (λ b. from_chunks b (walked_sound (cut s).chunks Start 0 ms (rw b at e))) (λ f. not_good (rw f at e))
+any_sound s ms e = by_test (begins s) (λ b. from_chunks b (walked_sound (cut s).chunks Start 0 ms (rw b at e))) (λ f. not_ok (rw f at e))
   where
     from_chunks : begins s ≡ true → Walked Start (cut s).chunks ms → (r : Reading) × Reads s r × (ms ≡ placed_units r)
     from_chunks b f =
@@ -103,7 +103,7 @@ begun : (s : List ℕ) (r : Reading) → Reads s r → begins s ≡ true
 unfolding begins
 begun s r h = ap begins (reads_code s r h).1
 
-any_complete : (s : List ℕ) (r : Reading) → Reads s r → walk_of_any s ≡ good (placed_units r)
+any_complete : (s : List ℕ) (r : Reading) → Reads s r → walk_of_any s ≡ Ok (placed_units r)
 unfolding walk_of_any
 any_complete s r h =
     rw (begun s r h)
@@ -115,17 +115,17 @@ any_complete s r h =
 -- ── streams within the limit ──
 
 -- a walk gives these units exactly where the stream has a reading whose units they are
-pub walked_iff : (s : List ℕ) (ms : List Placed) → (walk s ≡ good ms) ↔ ((length s ≤ longest_stream) × ((r : Reading) × Reads s r × (ms ≡ placed_units r)))
+pub walked_iff : (s : List ℕ) (ms : List Placed) → (walk s ≡ Ok ms) ↔ ((length s ≤ longest_stream) × ((r : Reading) × Reads s r × (ms ≡ placed_units r)))
 unfolding walk
 walked_iff s ms = (
-  (λ e. by_test (ltb longest_stream (length s)) (λ t. not_good (rw t at e)) (λ f. (ltb-false _ _ f, any_sound s ms (rw f at e)))),
-  λ h. rw (le-ltb longest_stream (length s) h.0) (any_complete s h.1.0 h.1.1 ∙ ap good (sym h.1.2)),
+  (λ e. by_test (ltb longest_stream (length s)) (λ t. not_ok (rw t at e)) (λ f. (ltb-false _ _ f, any_sound s ms (rw f at e)))),
+  λ h. rw (le-ltb longest_stream (length s) h.0) (any_complete s h.1.0 h.1.1 ∙ ap Ok (sym h.1.2)),
 )
 
 -- what is said of a walk that came to its end
-pub said_done : {A : Type 0} (view : List Placed → A) (w : Walk) (a : A) → said view w ≡ done a → (ms : List Placed) × (w ≡ good ms) × (view ms ≡ a)
-said_done view (good ms) a e = (ms, refl, done_one e)
-said_done view (bad s) a e = not_done e
+pub said_done : {A : Type 0} (view : List Placed → A) (w : Walk) (a : A) → said view w ≡ done a → (ms : List Placed) × (w ≡ Ok ms) × (view ms ≡ a)
+said_done view (Ok ms) a e = (ms, refl, done_one e)
+said_done view (Err s) a e = not_done e
 
 pub filed_iff : (s : List ℕ) (rs : List Row) → (filing s ≡ done rs) ↔ ((length s ≤ longest_stream) × ((r : Reading) × Reads s r × (rs ≡ rows r)))
 unfolding filing

@@ -1,4 +1,5 @@
 -- Filing with so many words lent: FULL comes last.
+use Rattle.std.proofs.Common.{Ok, Err}
 use Prim.Native.Nat.{ℕ, ◌≤◌, ◌*◌}
 use mathlib.Core.Path.{◌≡◌, refl, sym, ◌∙◌, ap}
 use mathlib.Core.Logic.{◌↔◌}
@@ -9,8 +10,7 @@ use lib.Dec.{ltb}
 use lib.ListN.{length}
 use Rattle.answers.specs.Answers.{done}
 use Rattle.answers.specs.Limits.{longest_stream}
-use Rattle.answers.specs.Results.{good, bad}
-use Rattle.answers.proofs.ResultLaws.{not_good, good_same}
+use Rattle.answers.proofs.ResultLaws.{not_ok, ok_same}
 use Rattle.bits.proofs.TestLaws.{by_test}
 use Rattle.grammar.specs.Grammar.{Reading, Reads}
 use Rattle.grammar.specs.Rows.{Row, Placed, placed_units, rows_from, rows}
@@ -19,18 +19,18 @@ use Rattle.grammar.proofs.Filing.{walked_iff, said_done}
 use Rattle.grammar.proofs.RowLaws.{rows_length}
 
 module _ (s : List ℕ) (lent : ℕ) where
-  pub into_good : (ms : List Placed) → walk s ≡ good ms → 3 * length ms ≤ lent → walk_into s lent ≡ good ms
+  pub into_good : (ms : List Placed) → walk s ≡ Ok ms → 3 * length ms ≤ lent → walk_into s lent ≡ Ok ms
   unfolding walk_into
   into_good ms e k = ap (within lent) e ∙ rw (le-ltb lent (3 * length ms) k)
 
-within_good : (lent : ℕ) (w : Walk) (ms : List Placed) → within lent w ≡ good ms → (w ≡ good ms) × (3 * length ms ≤ lent)
-within_good lent (good ns) ms e =
+within_good : (lent : ℕ) (w : Walk) (ms : List Placed) → within lent w ≡ Ok ms → (w ≡ Ok ms) × (3 * length ms ≤ lent)
+within_good lent (Ok ns) ms e =
     by_test (ltb lent (3 * length ns))
-    (λ t. not_good (rw t at e))
-    (λ f. let i : ns ≡ ms = good_same (rw f at e) in let k = ltb-false lent (3 * length ns) f in (ap good i, rw i at k))
-within_good lent (bad x) ms e = not_good e
+    (λ t. not_ok (rw t at e))
+    (λ f. let i : ns ≡ ms = ok_same (rw f at e) in let k = ltb-false lent (3 * length ns) f in (ap Ok i, rw i at k))
+within_good lent (Err x) ms e = not_ok e
 
-pub good_into : (s : List ℕ) (lent : ℕ) (ms : List Placed) → walk_into s lent ≡ good ms → (walk s ≡ good ms) × (3 * length ms ≤ lent)
+pub good_into : (s : List ℕ) (lent : ℕ) (ms : List Placed) → walk_into s lent ≡ Ok ms → (walk s ≡ Ok ms) × (3 * length ms ≤ lent)
 unfolding walk_into
 good_into s lent ms e = within_good lent (walk s) ms e
 

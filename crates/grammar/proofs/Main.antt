@@ -1,4 +1,5 @@
 -- What is proved of recordings: how many readings they have, when they are filed, and when each refusal is given.
+use Rattle.std.proofs.Common.{Ok}
 use Prim.Native.Nat.{ℕ, ◌*◌, ◌≤◌, ◌<◌}
 use mathlib.Core.Path.{◌≡◌}
 use mathlib.Core.Logic.{◌≢◌, ◌↔◌}
@@ -7,7 +8,6 @@ use mathlib.Core.Bool.{true}
 use lib.ListN.{length}
 use Rattle.answers.specs.Answers.{Carried, at_bit, done, refused, VALUE}
 use Rattle.answers.specs.Limits.{longest_stream}
-use Rattle.answers.specs.Results.{good}
 use Rattle.bits.specs.Lists.{All}
 use Rattle.bodies.specs.declared.SequenceHeader.{SequenceHeader}
 use Rattle.macroblocks.specs.Macroblocks.{macroblock_rows}
@@ -50,7 +50,7 @@ order_iff header p = let t = tested_iff header in ((λ h small. h (t.1 small)), 
 -- ── when a stream is filed ──
 
 -- The walk gives units exactly where the stream is within the limit and has a reading, and they are that reading's.
-pub walked_iff : (stream : List ℕ) (ms : List Placed) → (walk stream ≡ good ms) ↔ ((length stream ≤ longest_stream) × ((r : Reading) × Reads stream r × (ms ≡ placed_units r)))
+pub walked_iff : (stream : List ℕ) (ms : List Placed) → (walk stream ≡ Ok ms) ↔ ((length stream ≤ longest_stream) × ((r : Reading) × Reads stream r × (ms ≡ placed_units r)))
 walked_iff = filed.walked_iff
 
 -- It is filed exactly there, and its rows are that reading's.

@@ -1,4 +1,5 @@
 -- Each refusal of filing is given exactly when document 01 says.
+use Rattle.std.proofs.Common.{Ok, Err}
 use Prim.Native.Nat.{ℕ, ◌+◌, ◌*◌}
 use mathlib.Core.Path.{◌≡◌, refl, sym, ◌∙◌, ap}
 use mathlib.Core.Logic.{inl, inr, ◌↔◌}
@@ -10,9 +11,8 @@ use lib.ListN.{length, length-append}
 use borrow.Author.Tests.{ltb-true, ltb-false, lt-ltb, le-ltb}
 use Rattle.answers.specs.Answers.{Carried, refused}
 use Rattle.answers.specs.Limits.{longest_stream}
-use Rattle.answers.specs.Results.{good, bad}
 use Rattle.answers.proofs.OutcomeLaws.{not_refused}
-use Rattle.answers.proofs.ResultLaws.{not_bad, bad_same, map_bad}
+use Rattle.answers.proofs.ResultLaws.{not_err, err_same, map_err}
 use Rattle.bits.specs.Lists.{All}
 use Rattle.bits.proofs.TestLaws.{by_test}
 use Rattle.startcode.specs.Prefix.{begins}
@@ -58,8 +58,8 @@ record Stuck (all : List (List ℕ)) (s : Stopped) : Type 0 where
   now : StopsNow state rest s.reason
   offset : s.offset ≡ length (concat_map bytes us)
 
-stopped_as : (why : Reason) (at : ℕ) (s : Stopped) → ◌≡◌ {A = Walk} (stop_at why at) (bad s) → (s.reason ≡ why) × (s.offset ≡ at)
-stopped_as why at s e = let z = bad_same e in (ap (λ (s : Stopped). s.reason) (sym z), ap (λ (s : Stopped). s.offset) (sym z))
+stopped_as : (why : Reason) (at : ℕ) (s : Stopped) → ◌≡◌ {A = Walk} (stop_at why at) (Err s) → (s.reason ≡ why) × (s.offset ≡ at)
+stopped_as why at s e = let z = err_same e in (ap (λ (s : Stopped). s.reason) (sym z), ap (λ (s : Stopped). s.offset) (sym z))
 
 concat_more : (us : List StreamUnit) (u : StreamUnit) → concat_map bytes (us ++ u ∷ []) ≡ concat_map bytes us ++ bytes u
 concat_more us u = concat_append bytes us (u ∷ []) ∙ ap (λ (l : List ℕ). concat_map bytes us ++ l) (append-nil (bytes u))
@@ -72,9 +72,9 @@ chunks_more : (us : List StreamUnit) (u : StreamUnit) (cs : List (List ℕ)) →
 chunks_more us u cs = ap (λ (l : List (List ℕ)). l ++ cs) (map-append chunk us (u ∷ [])) ∙ append_assoc (map chunk us) (chunk u ∷ []) cs
 
 module _ (all : List (List ℕ)) (s : Stopped) where
-  stuck : (cs : List (List ℕ)) (us : List StreamUnit) (q : State) (at : ℕ) → At us q → all ≡ map chunk us ++ cs → at ≡ length (concat_map bytes us) → walk_from cs q at ≡ bad s → Stuck all s
+  stuck : (cs : List (List ℕ)) (us : List StreamUnit) (q : State) (at : ℕ) → At us q → all ≡ map chunk us ++ cs → at ≡ length (concat_map bytes us) → walk_from cs q at ≡ Err s → Stuck all s
   unfolding walk_from
-  stuck [] us q at a i p e = by_test (final q) (λ t. not_bad (rw t at e)) (λ f. let (w, l) = stopped_as reason.Unended at s (rw f at e) in
+  stuck [] us q at a i p e = by_test (final q) (λ t. not_err (rw t at e)) (λ f. let (w, l) = stopped_as reason.Unended at s (rw f at e) in
       record { us = us; state = q; rest = []; is = i; at = a; now = no_chunk refl f w; offset = l ∙ p })
   stuck ([] ∷ []) us q at a i p e = let (w, l) = stopped_as reason.Cut at s e in record { us = us; state = q; rest = [] ∷ []; is = i; at = a; now = last_empty refl w; offset = l ∙ p }
   stuck ([] ∷ c ∷ cs) us q at a i p e = let (w, l) = stopped_as reason.Overlap at s e in record { us = us; state = q; rest = [] ∷ c ∷ cs; is = i; at = a; now = empty c cs refl w; offset = l ∙ p }
@@ -84,11 +84,11 @@ module _ (all : List (List ℕ)) (s : Stopped) where
       u = record { code = c; body = b }
 
       by_step : (x : Step) → step q u ≡ x
-          → ((q' : State) → At (us ++ u ∷ []) q' → all ≡ map chunk (us ++ u ∷ []) ++ cs → at + length (bytes u) ≡ length (concat_map bytes (us ++ u ∷ [])) → walk_from cs q' (at + length (bytes u)) ≡ bad s → Stuck all s)
-          → continue x at (λ q'. add_unit (placed (scope_in q u) u) (walk_from cs q' (at + length (bytes u)))) ≡ bad s → Stuck all s
+          → ((q' : State) → At (us ++ u ∷ []) q' → all ≡ map chunk (us ++ u ∷ []) ++ cs → at + length (bytes u) ≡ length (concat_map bytes (us ++ u ∷ [])) → walk_from cs q' (at + length (bytes u)) ≡ Err s → Stuck all s)
+          → continue x at (λ q'. add_unit (placed (scope_in q u) u) (walk_from cs q' (at + length (bytes u)))) ≡ Err s → Stuck all s
       by_step (stop why) x ih e = let (w, l) = stopped_as why at s e in record { us = us; state = q; rest = chunk u ∷ cs; is = i; at = a; now = at_unit u cs refl (x ∙ ap stop (sym w)); offset = l ∙ p }
       by_step (go q') x ih e = ih q' (more a (step_sound q u q' x)) (i ∙ sym (chunks_more us u cs)) (ap (λ (k : ℕ). k + length (bytes u)) p ∙ sym (offset_more us u))
-          (map_bad (λ ms. placed (scope_in q u) u ∷ ms) (walk_from cs q' (at + length (bytes u))) s e)
+          (map_err (λ ms. placed (scope_in q u) u ∷ ms) (walk_from cs q' (at + length (bytes u))) s e)
 
 stops_now : (q : State) (cs : List (List ℕ)) (why : Reason) (at : ℕ) → StopsNow q cs why → walk_from cs q at ≡ stop_at why at
 unfolding walk_from
@@ -97,7 +97,7 @@ stops_now q cs why at (last_empty e m) = rw (e, m) refl
 stops_now q cs why at (empty c rest e m) = rw (e, m) refl
 stops_now q cs why at (at_unit u rest e s) = rw (e, s) refl
 
-unstuck : {us : List StreamUnit} {q : State} → At us q → (cs : List (List ℕ)) (s : Stopped) → walk_from cs q (length (concat_map bytes us)) ≡ bad s → walk_from (map chunk us ++ cs) Start 0 ≡ bad s
+unstuck : {us : List StreamUnit} {q : State} → At us q → (cs : List (List ℕ)) (s : Stopped) → walk_from cs q (length (concat_map bytes us)) ≡ Err s → walk_from (map chunk us ++ cs) Start 0 ≡ Err s
 unfolding walk_from
 unstuck start cs s e = e
 unstuck (more {us} {q} {q'} {u} a g) cs s e =
@@ -127,7 +127,7 @@ stops_stuck a l left why (cut_short e m) = last_empty (rw (e, cut_law []) refl) 
 stops_stuck a l left why (overlap rest e h m) = empty (cut h.0).front (cut h.0).chunks (rw (e, cut_law rest, h.1, cut_law h.0) refl) m
 stops_stuck a l left why (breaks u rest e k d b) = at_unit u (cut rest).chunks (rw (e, cut_unit u rest k d) refl) ((step_iff a u why).1 b)
 
-chunks_refused : (s : List ℕ) → HasCode s → (x : Stopped) → walk_from (cut s).chunks Start 0 ≡ bad x → StopsAt s x.reason x.offset
+chunks_refused : (s : List ℕ) → HasCode s → (x : Stopped) → walk_from (cut s).chunks Start 0 ≡ Err x → StopsAt s x.reason x.offset
 chunks_refused s h x e =
     let t = stuck (cut s).chunks x (cut s).chunks [] Start 0 start refl refl e in
     let c = uncut_ahead s t.us t.rest h t.is in
@@ -150,7 +150,7 @@ refused_chunks s why at t =
 
 -- ── every refusal ──
 
-stops_by : (s : List ℕ) (x : Stopped) → walk s ≡ bad x → Refuses s x.reason x.offset
+stops_by : (s : List ℕ) (x : Stopped) → walk s ≡ Err x → Refuses s x.reason x.offset
 unfolding walk walk_of_any
 stops_by s x e =
     by_test (ltb longest_stream (length s))
@@ -172,13 +172,13 @@ stopped_iff s why at = (stops_by s (record { reason = why; offset = at }), by_st
 
 -- ── with words lent ──
 
-into_stops : (s : List ℕ) (lent : ℕ) (x : Stopped) → walk_into s lent ≡ bad x → RefusesInto s lent x.reason x.offset
+into_stops : (s : List ℕ) (lent : ℕ) (x : Stopped) → walk_into s lent ≡ Err x → RefusesInto s lent x.reason x.offset
 unfolding walk_into
 into_stops s lent x e = by_walk (walk s) refl e
   where
-    by_walk : (w : Walk) → walk s ≡ w → within lent w ≡ bad x → RefusesInto s lent x.reason x.offset
-    by_walk (bad y) e f = refuses-filing (stops_by s x (e ∙ f))
-    by_walk (good ms) e f =
+    by_walk : (w : Walk) → walk s ≡ w → within lent w ≡ Err x → RefusesInto s lent x.reason x.offset
+    by_walk (Err y) e f = refuses-filing (stops_by s x (e ∙ f))
+    by_walk (Ok ms) e f =
         by_test (ltb lent (3 * length ms))
         (λ t.
         let (w, p) = stopped_as reason.Full 0 x (rw t at f) in
@@ -186,7 +186,7 @@ into_stops s lent x e = by_walk (walk s) refl e
         let i : length ms ≡ length (units k.1.0) = ap length k.1.2 ∙ units_length k.1.0 in
         let l = ltb-true lent (3 * length ms) t in
         full k.0 k.1.0 k.1.1 (omega arith) w p)
-        (λ g. not_bad (rw g at f))
+        (λ g. not_err (rw g at f))
 
 stops_into : (s : List ℕ) (lent : ℕ) (why : Reason) (at : ℕ) → RefusesInto s lent why at → walk_into s lent ≡ stop_at why at
 unfolding walk_into
@@ -201,9 +201,9 @@ into_stopped_iff s lent why at = (into_stops s lent (record { reason = why; offs
 module _ {A : Type 0} (view : List Placed → A) where
   -- what is said of a walk that stops
   pub said_refused : (w : Walk) (n : ℕ) (carried : List Carried) → said view w ≡ refused n carried →
-      (x : Stopped) × (w ≡ bad x) × (n ≡ reason_number x.reason) × (carried ≡ carries x.reason x.offset)
-  said_refused (good ms) n carried e = not_refused e
-  said_refused (bad x) n carried e = (x, refl, cc, cc)
+      (x : Stopped) × (w ≡ Err x) × (n ≡ reason_number x.reason) × (carried ≡ carries x.reason x.offset)
+  said_refused (Ok ms) n carried e = not_refused e
+  said_refused (Err x) n carried e = (x, refl, cc, cc)
 
   pub said_iff : (w : Walk) (Refused : Reason → ℕ → Type 0) → ((why : Reason) (at : ℕ) → (w ≡ stop_at why at) ↔ Refused why at) → (n : ℕ) (carried : List Carried) →
       (said view w ≡ refused n carried) ↔ ByNumber Refused n carried

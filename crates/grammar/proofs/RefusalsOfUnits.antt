@@ -1,4 +1,5 @@
 -- The reader stops at a unit exactly where the unit breaks a rule, and for the first that it breaks.
+use Rattle.std.proofs.Common.{Result, Ok, Err}
 use Prim.Native.Nat.{ℕ}
 use mathlib.Core.Path.{◌≡◌, refl, sym, ◌∙◌, ap, subst}
 use mathlib.Core.Logic.{◌⊎◌, inl, inr, ◌↔◌}
@@ -8,8 +9,7 @@ use native.Mathlib.Omega.{arith}
 use lib.Dec.{leb, ltb}
 use borrow.Author.Tests.{ltb-true, leb-true, lt-ltb, le-leb}
 use Rattle.answers.specs.Answers.{done}
-use Rattle.answers.specs.Results.{Result, good, bad}
-use Rattle.answers.proofs.ResultLaws.{not_bad, good_same}
+use Rattle.answers.proofs.ResultLaws.{not_err, ok_same}
 use Rattle.bits.specs.Lists.{All}
 use Rattle.bits.proofs.ListLaws.{absent, all_append}
 use Rattle.bits.proofs.TestLaws.{by_test, contrary, and_true}
@@ -54,9 +54,9 @@ same_stop : (m n : Reason) → (stop m ≡ stop n) ↔ (n ≡ m)
 same_stop m n = ((λ e. cc), λ e. cc)
 
 -- a body that is refused by its result, where what the result refuses is stated
-by_iff : {A : Type 0} (r : Result Fault A) (next : A → State) (Broken : Fault → Type 0) → ((f : Fault) → (r ≡ bad f) ↔ Broken f) → (why : Reason) → (by r next ≡ stop why) ↔ OfBody Broken why
-by_iff (good a) next Broken iff why = (not_stop, λ b. not_bad ((iff b.0).1 b.1))
-by_iff (bad f) next Broken iff why = ((λ e. (f, (iff f).0 refl, cc)), λ b. let e = (iff b.0).1 b.1 in let m = b.2 in cc)
+by_iff : {A : Type 0} (r : Result A Fault) (next : A → State) (Broken : Fault → Type 0) → ((f : Fault) → (r ≡ Err f) ↔ Broken f) → (why : Reason) → (by r next ≡ stop why) ↔ OfBody Broken why
+by_iff (Ok a) next Broken iff why = (not_stop, λ b. not_err ((iff b.0).1 b.1))
+by_iff (Err f) next Broken iff why = ((λ e. (f, (iff f).0 refl, cc)), λ b. let e = (iff b.0).1 b.1 in let m = b.2 in cc)
 
 zero_nonzero : (body : List ℕ) → all_zero body ≡ true → ¬ Nonzero body
 zero_nonzero body t n = contrary (all_zero body) t (nonzero_false body n)
@@ -82,7 +82,7 @@ same_header {us} {h} {k} a b =
     let x = (header_good a.head.body h).1 a.body in
     let y = (header_good b.head.body k).1 b.body in
     let z : header_result a.head.body ≡ header_result b.head.body = ap (λ (u : StreamUnit). header_result u.body) e in
-    good_same (sym x ∙ z ∙ y)
+    ok_same (sym x ∙ z ∙ y)
 
 module _ (us : List StreamUnit) (rule : SliceRule) (least : ℕ) (ruled : Ruled us rule) (bound : Least us least) (u : StreamUnit) (why : Reason) where
   bad_slice : Nonzero u.body → rule.tested ≡ true → OutOfOrder us u rule.rows why → BadSlice us u why

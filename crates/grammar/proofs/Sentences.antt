@@ -1,4 +1,5 @@
 -- Units lead to a state exactly where they begin a sentence; and what a state says of the units before it.
+use Rattle.std.proofs.Common.{Ok}
 use Prim.Native.Nat.{ℕ, ◌≤◌, ◌<◌, ◌+◌}
 use mathlib.Core.Path.{◌≡◌, refl, sym, ◌∙◌, ap}
 use mathlib.Core.Logic.{◌≢◌, ◌⊎◌, inl, inr, ◌↔◌}
@@ -13,7 +14,6 @@ use Rattle.layout.specs.Reader.{ruled, allows, values_of, judge, judged, cross, 
 use Rattle.bodies.specs.Reader.{record_of, header_result}
 use Rattle.layout.specs.Layouts.{fields, least_bytes}
 use Rattle.layout.specs.Obeys.{AllAllowed}
-use Rattle.answers.specs.Results.{good}
 use Rattle.bodies.specs.Records.{header_record}
 use Rattle.layout.specs.declared.Layout.TheVariants.{Header}
 use Rattle.bodies.specs.declared.Scope.TheVariants as scope
@@ -267,7 +267,7 @@ plain_body = 0x48 ∷ 0x40 ∷ 0x0F ∷ 0x00 ∷ 0x7D ∷ 0x02 ∷ 0x44 ∷ 0x44
 abbrev pub plain_header : SequenceHeader
 plain_header = record { profile = 72; level = 64; progressive = 0; horizontal = 1920; vertical = 4000; chroma = 1; precision = 1; aspect = 1; rate = 1; bitrate = 20000; delay = 0; buffer = 1 }
 
-plain_result : header_result plain_body ≡ good plain_header
+plain_result : header_result plain_body ≡ Ok plain_header
 unfolding plain_body record_of reading header_record values_of fields least_bytes bits_of bits_in read_at read_on judged judge ruled allows cross ended
 plain_result = refl
 

@@ -1,4 +1,5 @@
 -- One step of the reader goes on exactly where the grammar does.
+use Rattle.std.proofs.Common.{Result, Ok, Err}
 use Prim.Native.Nat.{ℕ, ◌≤◌, ◌<◌, ◌+◌}
 use mathlib.Core.Path.{◌≡◌, refl, sym, ◌∙◌, ap, subst}
 use mathlib.Core.Logic.{◌⊎◌, inl, inr, ◌↔◌}
@@ -8,7 +9,6 @@ use lib.Dec.{eqb, leb, ltb}
 use borrow.Author.Tests.{eqb-true, ltb-false, leb-false, le-ltb, lt-leb, not-false}
 use native.Mathlib.Omega.{arith}
 use Rattle.answers.specs.Answers.{Outcome, done, refused}
-use Rattle.answers.specs.Results.{Result, good, bad}
 use Rattle.bits.specs.Lists.{All}
 use Rattle.bits.proofs.TestLaws.{by_test, contrary}
 use Rattle.startcode.specs.Kinds.{kind_of}
@@ -80,11 +80,11 @@ pass [] s h = refl
 pass (c ∷ l) s h = rw h.0 (pass l s h.1)
 
 -- reading a body goes on exactly where it succeeds
-by_go : {A : Type 0} (r : Result Fault A) (next : A → State) (q : State) → by r next ≡ go q → (a : A) × (r ≡ good a) × (next a ≡ q)
-by_go (good a) next q e = (a, refl, cc)
-by_go (bad fault) next q e = not_go e
+by_go : {A : Type 0} (r : Result A Fault) (next : A → State) (q : State) → by r next ≡ go q → (a : A) × (r ≡ Ok a) × (next a ≡ q)
+by_go (Ok a) next q e = (a, refl, cc)
+by_go (Err fault) next q e = not_go e
 
-goes : {A : Type 0} (r : Result Fault A) (next : A → State) (a : A) → r ≡ good a → by r next ≡ go (next a)
+goes : {A : Type 0} (r : Result A Fault) (next : A → State) (a : A) → r ≡ Ok a → by r next ≡ go (next a)
 goes r next a e = rw e
 
 -- the step choose_go

@@ -1,4 +1,5 @@
 -- The walk by index: what is left of it at an offset where a unit begins, one unit at a time.
+use Rattle.std.proofs.Common.{Ok}
 use Prim.Native.Nat.{ℕ, suc, ◌≤◌, ◌<◌, ◌+◌, ◌-◌}
 use mathlib.Core.Path.{◌≡◌, refl, sym, ◌∙◌, ap}
 use mathlib.Core.List.{List, [], ◌∷◌}
@@ -6,7 +7,6 @@ use mathlib.Core.Bool.{true, false, cond}
 use lib.ListN.{length, get_or, take, drop, length-drop, length-take}
 use lib.Seq.{drop-cons, drop-drop, drop-length, take-append_seam}
 use native.Mathlib.Omega.{arith}
-use Rattle.answers.specs.Results.{good}
 use Rattle.bits.proofs.TestLaws.{by_test}
 use Rattle.startcode.specs.Prefix.{begins, before, next_prefix}
 use Rattle.startcode.proofs.PrefixLaws.{before_hit, before_miss, before_le, before_found, search_start}
@@ -66,7 +66,7 @@ prefix_fits s at b = omega (arith, simp length-drop at (ap length (after_prefix 
 pub chunks_at : (s : List ℕ) (at : ℕ) → begins (drop at s) ≡ true → (cut (drop at s)).chunks ≡ (cut (drop (at + 3) s)).front ∷ (cut (drop (at + 3) s)).chunks
 chunks_at s at b = rw (after_prefix s at b, cut_law)
 
-pub left_end : (s : List ℕ) (q : State) → left s q (length s) ≡ cond (final q) (good []) (stop_at Unended (length s))
+pub left_end : (s : List ℕ) (q : State) → left s q (length s) ≡ cond (final q) (Ok []) (stop_at Unended (length s))
 unfolding left walk_from cut
 left_end s q = rw drop-length
 

@@ -1,9 +1,9 @@
 -- Filing as a computation: the stream is cut at each 00 00 01, and a state goes over the units.
 -- Document 01's order: TOO LONG, NO CODE, then unit by unit 2, 3, 4, 5, 6, 10, fields in bit order, 9; then UNENDED, then FULL.
-use Rattle.std.specs.Prelude.{ℕ, ◌+◌, ◌*◌, List, [], ◌∷◌, Bool, true, false, cond, ◌&&◌, not, eqb, leb, ltb, length, drop}
+use Rattle.std.specs.Prelude.{ℕ, ◌+◌, ◌*◌, List, [], ◌∷◌, Bool, true, false, cond, ◌&&◌, not, eqb, leb, ltb, length, drop, Result, Ok, Err}
 use Rattle.answers.specs.Answers.{Outcome, done, refused}
 use Rattle.answers.specs.Limits.{longest_stream}
-use Rattle.answers.specs.Results.{Result, good, bad, map_good}
+use Rattle.answers.specs.Results.{map_ok}
 use Rattle.startcode.specs.Prefix.{begins}
 use Rattle.startcode.specs.Kinds.{kind_of}
 use Rattle.startcode.specs.declared.Kind.{Kind}
@@ -51,9 +51,9 @@ guard [] step = step
 guard (c ∷ cs) step = cond c.0 (stop c.1) (guard cs step)
 
 -- what reading a body says
-abbrev pub by : {A : Type 0} → Result Fault A → (A → State) → Step
-by (good a) next = go (next a)
-by (bad fault) next = stop (reason.Body fault)
+abbrev pub by : {A : Type 0} → Result A Fault → (A → State) → Step
+by (Ok a) next = go (next a)
+by (Err fault) next = stop (reason.Body fault)
 
 abbrev pub is_nil : {A : Type 0} → List A → Bool
 is_nil [] = true
@@ -170,10 +170,10 @@ pub record Stopped : Type 0 where
   pub offset : ℕ
 
 abbrev pub Walk : Type 0
-Walk = Result Stopped (List Placed)
+Walk = Result (List Placed) Stopped
 
-abbrev pub stop_at : {A : Type 0} → Reason → ℕ → Result Stopped A
-stop_at why at = bad (record { reason = why; offset = at })
+abbrev pub stop_at : {A : Type 0} → Reason → ℕ → Result A Stopped
+stop_at why at = Err (record { reason = why; offset = at })
 
 -- go on in the next state, or stop at the unit's offset
 abbrev pub continue : Step → ℕ → (State → Walk) → Walk
@@ -181,11 +181,11 @@ continue (go q) at rest = rest q
 continue (stop why) at rest = stop_at why at
 
 abbrev pub add_unit : Placed → Walk → Walk
-add_unit m rest = map_good (λ ms. m ∷ ms) rest
+add_unit m rest = map_ok (λ ms. m ∷ ms) rest
 
 -- the chunks from offset `at` on, in state q; an empty chunk is CUT at the stream's end and OVERLAP before another
 unfoldable pub walk_from : List (List ℕ) → State → ℕ → Walk
-walk_from [] q at = cond (final q) (good []) (stop_at reason.Unended at)
+walk_from [] q at = cond (final q) (Ok []) (stop_at reason.Unended at)
 walk_from ([] ∷ chunks) q at = stop_at (cond (is_nil chunks) reason.Cut reason.Overlap) at
 walk_from ((code ∷ body) ∷ chunks) q at =
     let u : StreamUnit = record { code = code; body = body } in
@@ -202,8 +202,8 @@ walk stream = cond (ltb longest_stream (length stream)) (stop_at reason.TooLong 
 
 -- what is seen of the units, in the papers' terms
 abbrev pub said : {A : Type 0} → (List Placed → A) → Walk → Outcome A
-said view (good ms) = done (view ms)
-said view (bad s) = refused (reason_number s.reason) (carries s.reason s.offset)
+said view (Ok ms) = done (view ms)
+said view (Err s) = refused (reason_number s.reason) (carries s.reason s.offset)
 
 -- the rows of a stream, whatever is lent for them
 unfoldable pub filing : List ℕ → Outcome (List Row)
@@ -211,8 +211,8 @@ filing stream = said (rows_from 0) (walk stream)
 
 -- the same with so many words lent, three a unit; FULL comes last
 abbrev pub within : ℕ → Walk → Walk
-within lent (good ms) = cond (ltb lent (3 * length ms)) (stop_at reason.Full 0) (good ms)
-within lent (bad s) = bad s
+within lent (Ok ms) = cond (ltb lent (3 * length ms)) (stop_at reason.Full 0) (Ok ms)
+within lent (Err s) = Err s
 
 unfoldable pub walk_into : List ℕ → ℕ → Walk
 walk_into stream lent = within lent (walk stream)

@@ -1,4 +1,5 @@
 -- What is answered for group g is that of the reading, and a refusal is the stream's.
+use Rattle.std.proofs.Common.{Ok, Err}
 use Prim.Native.Nat.{ℕ, zero, suc, ◌≤◌}
 use mathlib.Core.Path.{◌≡◌, refl, sym, ◌∙◌, ap}
 use mathlib.Core.Logic.{◌↔◌}
@@ -7,9 +8,8 @@ use lib.ListN.{length}
 use native.Mathlib.Omega.{arith}
 use Rattle.answers.specs.Answers.{Carried, Outcome, done, refused, and_then, OneToOne, NO_ROW}
 use Rattle.answers.specs.Limits.{longest_stream}
-use Rattle.answers.specs.Results.{good, bad}
 use Rattle.answers.proofs.OutcomeLaws.{not_done, not_refused, undone}
-use Rattle.answers.proofs.ResultLaws.{not_good}
+use Rattle.answers.proofs.ResultLaws.{not_ok}
 use Rattle.bits.proofs.TestLaws.{by_test}
 use Rattle.startcode.specs.Prefix.{begins}
 use Rattle.bodies.specs.Reader.{header_of}
@@ -36,7 +36,7 @@ use Rattle.groups.proofs.ReadingLaws.{number_given, given_number, no_number}
 
 module _ (s : List ℕ) (g : ℕ) where
   -- of a stream that is good, the group of its units
-  at_walked : (ms : List Placed) → walk s ≡ good ms → group_at s g ≡ group_in g (map unit_of ms)
+  at_walked : (ms : List Placed) → walk s ≡ Ok ms → group_at s g ≡ group_in g (map unit_of ms)
   unfolding group_at
   at_walked ms e = ap (λ (w : Walk). and_then (said (map unit_of) w) (group_in g)) e
 
@@ -100,8 +100,8 @@ unfolding group_at
 group_no_row s g n e = by_walk (walk s) e
   where
     by_walk : (w : Walk) → and_then (said (map unit_of) w) (group_in g) ≡ refused n [] → n ≡ NO_ROW
-    by_walk (good ms) e = row_number n g (map unit_of ms) e
-    by_walk (bad x) e = not_offset e
+    by_walk (Ok ms) e = row_number n g (map unit_of ms) e
+    by_walk (Err x) e = not_offset e
 
 -- ── any stream ──
 
@@ -114,17 +114,17 @@ module _ (s : List ℕ) (g : ℕ) where
   Read : Type 0
   Read = (length s ≤ longest_stream) × ((r : Reading) × Reads s r)
 
-  good_read : (ms : List Placed) → walk s ≡ good ms → Read
+  good_read : (ms : List Placed) → walk s ≡ Ok ms → Read
   unfolding Read
   good_read ms e = let k = (walked_iff s ms).0 e in (k.0, (k.1.0, k.1.1))
 
   record_read : (x : GroupRecord) → group_at s g ≡ done x → (w : Walk) → walk s ≡ w → Read
-  record_read x e (good ms) f = good_read ms f
-  record_read x e (bad y) f = not_done (sym (by_walk (bad y) f) ∙ e)
+  record_read x e (Ok ms) f = good_read ms f
+  record_read x e (Err y) f = not_done (sym (by_walk (Err y) f) ∙ e)
 
   row_read : group_at s g ≡ refused NO_ROW [] → (w : Walk) → walk s ≡ w → Read
-  row_read e (good ms) f = good_read ms f
-  row_read e (bad y) f = not_offset (sym (by_walk (bad y) f) ∙ e)
+  row_read e (Ok ms) f = good_read ms f
+  row_read e (Err y) f = not_offset (sym (by_walk (Err y) f) ∙ e)
 
   pub group_exactly : GroupByReading s g (group_at s g)
   unfolding Read
@@ -154,7 +154,7 @@ units_are s r h =
     ap (λ (l : List ℕ). units_in (cut l).chunks) (sym h.stream_is) ∙ ap (λ (c : Cut). units_in c.chunks) (cut_units (units r) h.alone) ∙ chunk_units (units r)
 
 module _ (s : List ℕ) (g n : ℕ) (e : done n ≡ said length (walk s)) where
-  found : (ms : List Placed) × (walk s ≡ good ms) × (length ms ≡ n)
+  found : (ms : List Placed) × (walk s ≡ Ok ms) × (length ms ≡ n)
   found = said_done length (walk s) n (sym e)
 
   pub at_good : group_in g (units_from s 0) ≡ group_at s g
@@ -162,15 +162,15 @@ module _ (s : List ℕ) (g n : ℕ) (e : done n ≡ said length (walk s)) where
 
   pub here_start : Here s 0
   unfolding walk_of_any
-  here_start = let k = (walk_good s found.0 found.1).1 in record { inside = omega arith; prefix = λ l. by_test (begins s) (λ b. b) (λ f. let z : stop_at NoCode 0 ≡ good found.0 = rw f at k in not_good z) }
+  here_start = let k = (walk_good s found.0 found.1).1 in record { inside = omega arith; prefix = λ l. by_test (begins s) (λ b. b) (λ f. let z : stop_at NoCode 0 ≡ Ok found.0 = rw f at k in not_ok z) }
 
 pub at_refused : (s : List ℕ) (g n : ℕ) (carried : List Carried) → refused n carried ≡ said length (walk s) → refused n carried ≡ group_at s g
 unfolding group_at
 at_refused s g n carried e = by_outcome (walk s) e
   where
     by_outcome : (w : Walk) → refused n carried ≡ said length w → refused n carried ≡ and_then (said (map unit_of) w) (group_in g)
-    by_outcome (good ms) e = not_done e
-    by_outcome (bad x) e = let p : n ≡ reason_number x.reason = cc in let q : carried ≡ carries x.reason x.offset = cc in rw (p, q)
+    by_outcome (Ok ms) e = not_done e
+    by_outcome (Err x) e = let p : n ≡ reason_number x.reason = cc in let q : carried ≡ carries x.reason x.offset = cc in rw (p, q)
 
 -- ── answers and their numbers ──
 

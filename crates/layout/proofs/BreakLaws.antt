@@ -1,4 +1,5 @@
 -- Reading refuses exactly what breaks the layout.
+use Rattle.std.proofs.Common.{Ok, Err}
 use Prim.Native.Nat.{ℕ, ◌+◌, ◌≤◌, ◌<◌}
 use mathlib.Core.Path.{◌≡◌, refl, sym, ap, ◌∙◌, subst}
 use mathlib.Core.List.{List, [], ◌∷◌, ◌++◌}
@@ -9,7 +10,7 @@ use borrow.Author.Tests.{eqb-true, eqb-false, eq-eqb, ne_eqb, ltb-true, ltb-fals
 use lib.Dec.{eqb, ltb}
 use lib.ListN.{length, take, drop, take-append-drop}
 use lib.Seq.{take_at, drop_at}
-use Rattle.answers.proofs.ResultLaws.{not_bad, bad_same}
+use Rattle.answers.proofs.ResultLaws.{not_err, err_same}
 use Rattle.bits.specs.Bits.{bits_of}
 use Rattle.bits.proofs.TestLaws.{by_test, contrary}
 use Rattle.bits.proofs.BitLaws.{length_bits}
@@ -18,8 +19,8 @@ use Rattle.layout.specs.Layouts.{width_of, rule_of, Allowed, Keeps, Wrong, field
 use Rattle.layout.specs.Values.{Ownership, ownership}
 use Rattle.layout.specs.Obeys.{Fits, AllAllowed, written}
 use Rattle.layout.specs.Breaks.{Holds, FirstWrong, Disowned, unflagged, unowned, BreaksAcross, Breaks, short, wrong, across, ended}
-use Rattle.layout.specs.Reader.{allows, ruled, Result, ◌>>◌, refuse_if, both, values_of, judge, owner_rules, owned_by, cross, judged, stuffing, reading}
-use Rattle.answers.specs.Results.{good, bad, ◌>>=◌}
+use Rattle.layout.specs.Reader.{allows, ruled, Reading, ◌>>◌, refuse_if, both, values_of, judge, owner_rules, owned_by, cross, judged, stuffing, reading}
+use Rattle.answers.specs.Results.{◌>>=◌}
 use Rattle.layout.specs.Reader as reader
 use Rattle.layout.specs.declared.JudgedField.TheVariants.{CopyrightOwner, CopyrightNumber}
 use Rattle.layout.specs.declared.Values.{Values}
@@ -40,15 +41,15 @@ use Rattle.layout.proofs.ObeyLaws.{fine_then, both_fine, read_written, written_r
 
 -- ── a body that is long enough has all its values ──
 
-values_there : (l : List ℕ) (fs : List Field) (at : ℕ) → at + bit_count fs ≤ length l → (vs : List ℕ) × (values_of fs at l ≡ good vs)
+values_there : (l : List ℕ) (fs : List Field) (at : ℕ) → at + bit_count fs ≤ length l → (vs : List ℕ) × (values_of fs at l ≡ Ok vs)
 values_there l [] at h = ([], unfold values_of in refl)
 values_there l (f ∷ fs) at h =
     let v = read_there l at (width_of f) (omega arith) in
     let vs = values_there l fs (at + width_of f) (omega arith) in
-    (v.0 ∷ vs.0, values_first (f ∷ fs) fs f at v.0 l refl v.1 ∙ ap (λ (r : Result (List ℕ)). r >>= (λ us. good (v.0 ∷ us))) vs.1)
+    (v.0 ∷ vs.0, values_first (f ∷ fs) fs f at v.0 l refl v.1 ∙ ap (λ (r : Reading (List ℕ)). r >>= (λ us. Ok (v.0 ∷ us))) vs.1)
 
 -- what a body holds is what is read of it
-pub held_read : (layout : Layout) (body vs end : List ℕ) → Holds layout body vs end → values_of (fields layout) 0 (bits_of body) ≡ good vs
+pub held_read : (layout : Layout) (body vs end : List ℕ) → Holds layout body vs end → values_of (fields layout) 0 (bits_of body) ≡ Ok vs
 held_read layout body vs end h =
     let len = written_length (fields layout) vs h.fits in
     written_read body (fields layout) 0 vs h.fits (ap (take (bit_count (fields layout))) h.bits ∙ take_at (written (fields layout) vs) end _ len)
@@ -66,12 +67,12 @@ holds layout body h =
     (r.0, record { long = h; fits = w.0; bits = sym (take-append-drop (bit_count (fields layout)) (bits_of body)) ∙ ap (λ (l : List ℕ). l ++ drop (bit_count (fields layout)) (bits_of body)) w.1 })
 
 -- so reading it is judging them
-pub held_reading : (layout : Layout) (body vs end : List ℕ) → Holds layout body vs end → reading layout body ≡ (judged layout vs >> (reader.ended layout body >> good vs))
+pub held_reading : (layout : Layout) (body vs end : List ℕ) → Holds layout body vs end → reading layout body ≡ (judged layout vs >> (reader.ended layout body >> Ok vs))
 held_reading layout body vs end h = reading_long layout body h.long ∙ ap (checked layout body) (held_read layout body vs end h)
 
 -- ── verdicts ──
 
-then_bad : {A : Type 0} (v : Verdict) (r : Result A) (why : Fault) → v ≡ Faulty why → (v >> r) ≡ bad why
+then_bad : {A : Type 0} (v : Verdict) (r : Reading A) (why : Fault) → v ≡ Faulty why → (v >> r) ≡ Err why
 then_bad v r why e = rw e
 
 faulty_same : (a b : Fault) → Faulty a ≡ Faulty b → a ≡ b
@@ -216,15 +217,15 @@ broken_cross Copyright vs why h = ap owned_by h.1 ∙ disowned_rules h.0 why h.2
 
 -- ── the whole ──
 
-then_split : {A P : Type 0} (v : Verdict) (r : Result A) (why : Fault) → (v >> r) ≡ bad why → (v ≡ Faulty why → P) → (v ≡ Fine → r ≡ bad why → P) → P
+then_split : {A P : Type 0} (v : Verdict) (r : Reading A) (why : Fault) → (v >> r) ≡ Err why → (v ≡ Faulty why → P) → (v ≡ Fine → r ≡ Err why → P) → P
 then_split Fine r why e f g = g refl e
-then_split {A} (Faulty a) r why e f g = f (ap Faulty (bad_same {A = A} e))
+then_split {A} (Faulty a) r why e f g = f (ap Faulty (err_same {A = A} e))
 
-pub breaks_if : (layout : Layout) (body : List ℕ) (why : Fault) → reading layout body ≡ bad why → Breaks layout body why
+pub breaks_if : (layout : Layout) (body : List ℕ) (why : Fault) → reading layout body ≡ Err why → Breaks layout body why
 unfolding judged reader.ended
 breaks_if layout body why e =
     by_test (ltb (length body) (least_bytes layout))
-    (λ t. let h = ltb-true (length body) (least_bytes layout) t in short h (bad_same {A = List ℕ} (sym e ∙ reading_short layout body h)))
+    (λ t. let h = ltb-true (length body) (least_bytes layout) t in short h (err_same {A = List ℕ} (sym e ∙ reading_short layout body h)))
     (λ n.
     let h = holds layout body (ltb-false (length body) (least_bytes layout) n) in
     let vs = h.0 in
@@ -237,16 +238,16 @@ breaks_if layout body why e =
     (λ j. wrong vs end h.1 (judge_first (fields layout) 0 vs why h.1.fits j))
     (λ j x. across vs end h.1 (fine j) (cross_broken layout vs why h.1.fits x)))
     (λ f r.
-    then_split (reader.ended layout body) (good vs) why r
+    then_split (reader.ended layout body) (Ok vs) why r
     (λ s.
     let p = both_fine first (cross layout vs) f in
     let q = if_same (not (stuffing end)) fault.Stuffing why s in
     ended vs end h.1 (fine p.0) (cross_fine layout vs p.1) (λ zeros z. contrary (stuffing end) (is_stuffing end zeros z) (not-true (stuffing end) q.0)) q.1)
-    (λ s g. not_bad g)))
+    (λ s g. not_err g)))
 
-pub if_breaks : (layout : Layout) (body : List ℕ) (why : Fault) → Breaks layout body why → reading layout body ≡ bad why
+pub if_breaks : (layout : Layout) (body : List ℕ) (why : Fault) → Breaks layout body why → reading layout body ≡ Err why
 unfolding judged reader.ended
-if_breaks layout body why (short h e) = reading_short layout body h ∙ ap bad (sym e)
+if_breaks layout body why (short h e) = reading_short layout body h ∙ ap Err (sym e)
 if_breaks layout body why (wrong vs end h w) =
     held_reading layout body vs end h ∙ then_bad (judged layout vs) _ why (ap (λ (v : Verdict). both v (cross layout vs)) (wrong_judge (fields layout) 0 vs why w))
 if_breaks layout body why (across vs end h a x) =
@@ -257,7 +258,7 @@ if_breaks layout body why (ended vs end h a x n e) =
     ap stuffing (held_end layout body vs end h) ∙ by_test (stuffing end) (λ t. let z = stuffing_is end t in absurd (n z.0 z.1)) (λ f. f) in
     held_reading layout body vs end h
     ∙ fine_then (judged layout vs) _ (ap (λ (v : Verdict). both v (cross layout vs)) (fine_judge (fields layout) 0 vs a) ∙ fine_cross layout vs x)
-    ∙ then_bad (reader.ended layout body) (good vs) why (ap (λ (t : Bool). refuse_if (not t) fault.Stuffing) s ∙ ap Faulty (sym e))
+    ∙ then_bad (reader.ended layout body) (Ok vs) why (ap (λ (t : Bool). refuse_if (not t) fault.Stuffing) s ∙ ap Faulty (sym e))
 
 -- ── SHORT ──
 
@@ -284,5 +285,5 @@ short_breaks layout body (across vs end h a x) = absurd (across_not_short layout
 short_breaks layout body (ended vs end h a x n e) = let z : ◌≡◌ {A = ℕ} 0 1 = cc in absurd (omega arith)
 
 -- nothing but its length makes a body SHORT
-pub short_if : (layout : Layout) (body : List ℕ) → reading layout body ≡ bad fault.Short → length body < least_bytes layout
+pub short_if : (layout : Layout) (body : List ℕ) → reading layout body ≡ Err fault.Short → length body < least_bytes layout
 short_if layout body e = short_breaks layout body (breaks_if layout body fault.Short e)

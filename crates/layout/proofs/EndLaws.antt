@@ -1,4 +1,5 @@
 -- Stuffing: as bits, and as bytes.
+use Rattle.std.proofs.Common.{Ok}
 use Prim.Native.Nat.{ℕ, zero, suc, ◌+◌, ◌*◌, ◌/◌, ◌%◌, ◌^◌, ◌<◌}
 use mathlib.Core.Path.{◌≡◌, refl, sym, ap, ◌∙◌}
 use mathlib.Core.List.{List, [], ◌∷◌, ◌++◌}
@@ -11,8 +12,7 @@ use native.Mathlib.Nat.{div-eq_of_lt}
 use lib.ListN.{length, get_or, take, drop, replicate}
 use lib.Seq.{take_all, drop-nil, drop-cons, drop-length, drop-append-add}
 use Rattle.bits.specs.Lists.{All}
-use Rattle.answers.specs.Results.{good}
-use Rattle.answers.proofs.ResultLaws.{good_same}
+use Rattle.answers.proofs.ResultLaws.{ok_same}
 use Rattle.bits.specs.Bits.{bits_in, bits_of, read_on}
 use Rattle.bits.proofs.ListLaws.{all_drop}
 use Rattle.bits.proofs.TestLaws.{and_true}
@@ -47,14 +47,14 @@ are_zeros zero = refl
 are_zeros (suc n) = are_zeros n
 
 -- a number that fits is known by its bits
-reads_itself : (w n : ℕ) → n < 2 ^ w → read_on 0 w (bits_in w n) ≡ good n
+reads_itself : (w n : ℕ) → n < 2 ^ w → read_on 0 w (bits_in w n) ≡ Ok n
 reads_itself w n h =
     let t : take w (bits_in w n) ≡ bits_in w n = take_all w (bits_in w n) (let l = length_in w n in omega arith) in
     reads_written 0 w n (bits_in w n) t (div-eq_of_lt h)
 
 same_bits : (w m n : ℕ) → m < 2 ^ w → n < 2 ^ w → bits_in w m ≡ bits_in w n → m ≡ n
 same_bits w m n h k e =
-    good_same (sym (reads_itself w m h) ∙ ap (read_on 0 w) e ∙ reads_itself w n k)
+    ok_same (sym (reads_itself w m h) ∙ ap (read_on 0 w) e ∙ reads_itself w n k)
 
 zero_byte : (x : ℕ) → x < 256 → all_zero (bits_in 8 x) ≡ eqb x 0
 unfolding bits_in

@@ -1,4 +1,5 @@
 -- A body's verdict, in its parts.
+use Rattle.std.proofs.Common.{Ok, Err}
 use Prim.Native.Nat.{ℕ, ◌*◌, ◌≤◌, ◌<◌}
 use mathlib.Core.Path.{◌≡◌, refl}
 use mathlib.Core.List.{List}
@@ -7,8 +8,8 @@ use borrow.Author.Tests.{lt-ltb, le-ltb}
 use lib.ListN.{length, drop}
 use Rattle.bits.specs.Bits.{bits_of}
 use Rattle.layout.specs.Layouts.{fields, bit_count, least_bytes}
-use Rattle.layout.specs.Reader.{Result, ◌>>◌, refuse_if, both, values_of, judged, stuffing, ended, reading}
-use Rattle.answers.specs.Results.{good, bad, ◌>>=◌}
+use Rattle.layout.specs.Reader.{Reading, ◌>>◌, refuse_if, both, values_of, judged, stuffing, ended, reading}
+use Rattle.answers.specs.Results.{◌>>=◌}
 use Rattle.layout.specs.Answers.{verdict_says}
 use Rattle.layout.specs.declared.Layout.{Layout}
 use Rattle.layout.specs.declared.Fault.TheVariants.{Short, Stuffing}
@@ -24,19 +25,19 @@ ended_by layout body k t e s = rw (← e, ← s)
 
 -- ── the whole ──
 
-pub reading_short : (layout : Layout) (body : List ℕ) → length body < least_bytes layout → reading layout body ≡ bad Short
+pub reading_short : (layout : Layout) (body : List ℕ) → length body < least_bytes layout → reading layout body ≡ Err Short
 unfolding reading
 reading_short layout body h = rw (lt-ltb _ _ h)
 
 -- what stands after the length test
-abbrev pub checked : Layout → List ℕ → Result (List ℕ) → Result (List ℕ)
-checked layout body values = values >>= (λ vs. judged layout vs >> (ended layout body >> good vs))
+abbrev pub checked : Layout → List ℕ → Reading (List ℕ) → Reading (List ℕ)
+checked layout body values = values >>= (λ vs. judged layout vs >> (ended layout body >> Ok vs))
 
 pub reading_long : (layout : Layout) (body : List ℕ) → least_bytes layout ≤ length body → reading layout body ≡ checked layout body (values_of (fields layout) 0 (bits_of body))
 unfolding reading
 reading_long layout body h = rw (le-ltb _ _ h)
 
-pub both_says : (v w : Verdict) (vs : List ℕ) → verdict_says (both v w) vs ≡ (v >> (w >> good vs))
+pub both_says : (v w : Verdict) (vs : List ℕ) → verdict_says (both v w) vs ≡ (v >> (w >> Ok vs))
 both_says Fine Fine vs = refl
 both_says Fine (Faulty fault) vs = refl
 both_says (Faulty fault) w vs = refl

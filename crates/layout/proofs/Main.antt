@@ -1,11 +1,11 @@
 -- What is proved of bodies and their layouts beyond the contract of reading.
+use Rattle.std.proofs.Common.{Ok, Err}
 use Prim.Native.Nat.{ℕ, ◌/◌, ◌%◌, ◌^◌, ◌<◌}
 use mathlib.Core.Path.{◌≡◌, sym, ◌∙◌}
 use mathlib.Core.Logic.{◌↔◌}
 use mathlib.Core.List.{List}
 use lib.ListN.{length}
-use Rattle.answers.proofs.ResultLaws.{good_same}
-use Rattle.answers.specs.Results.{good, bad}
+use Rattle.answers.proofs.ResultLaws.{ok_same}
 use Rattle.layout.specs.Layouts.{fields, bit_count, Begins, placed_at, least_bytes}
 use Rattle.layout.specs.Values.{copyright_number}
 use Rattle.layout.specs.Obeys.{Obeys}
@@ -24,15 +24,15 @@ use Rattle.layout.proofs.OwnerLaws as owners
 use Rattle.layout.proofs.PlaceLaws as places
 
 -- Reading gives values exactly where the body obeys its layout with them.
-pub obeys_iff : (layout : Layout) (body vs : List ℕ) → (reading layout body ≡ good vs) ↔ Obeys layout body vs
+pub obeys_iff : (layout : Layout) (body vs : List ℕ) → (reading layout body ≡ Ok vs) ↔ Obeys layout body vs
 obeys_iff layout body vs = (obeys_if layout body vs, if_obeys layout body vs)
 
 -- A body has no other values.
 pub values_once : (layout : Layout) (body vs us : List ℕ) → Obeys layout body vs → Obeys layout body us → vs ≡ us
-values_once layout body vs us h k = good_same (sym (if_obeys layout body vs h) ∙ if_obeys layout body us k)
+values_once layout body vs us h k = ok_same (sym (if_obeys layout body vs h) ∙ if_obeys layout body us k)
 
 -- Reading refuses exactly what breaks the layout, for the first thing that does.
-pub breaks_iff : (layout : Layout) (body : List ℕ) (why : Fault) → (reading layout body ≡ bad why) ↔ Breaks layout body why
+pub breaks_iff : (layout : Layout) (body : List ℕ) (why : Fault) → (reading layout body ≡ Err why) ↔ Breaks layout body why
 breaks_iff layout body why = (breaks_if layout body why, if_breaks layout body why)
 
 -- The bit of a value that is refused is its field's first bit, the sum of the widths before it; that of the copyright number is part
@@ -49,7 +49,7 @@ pub begins_inside : (layout : Layout) (name : Name) (at : ℕ) → Begins layout
 begins_inside = places.begins_inside
 
 -- SHORT is given exactly for a body of fewer bytes than asked for.
-pub short_iff : (layout : Layout) (body : List ℕ) → (reading layout body ≡ bad fault.Short) ↔ (length body < least_bytes layout)
+pub short_iff : (layout : Layout) (body : List ℕ) → (reading layout body ≡ Err fault.Short) ↔ (length body < least_bytes layout)
 short_iff layout body = (short_if layout body, reading_short layout body)
 
 -- A copyright number has these parts exactly where it is one × 2^44 + two × 2^22 + three, of parts that fit their fields.

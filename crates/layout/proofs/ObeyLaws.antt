@@ -1,4 +1,5 @@
 -- Reading gives values exactly where the body obeys its layout with them.
+use Rattle.std.proofs.Common.{Ok}
 use Prim.Native.Nat.{ℕ, ◌+◌, ◌*◌, ◌^◌, ◌<◌}
 use mathlib.Core.Path.{◌≡◌, refl, sym, ap, ◌∙◌, subst}
 use mathlib.Core.Logic.{◌↔◌}
@@ -10,7 +11,7 @@ use borrow.Author.Tests.{eqb-true, eqb-false, eq-eqb, ne_eqb, leb-true, le-leb, 
 use lib.Dec.{eqb, leb}
 use lib.ListN.{length, take, drop, replicate, length-append, take-append-drop}
 use lib.Seq.{take_all, take_at, drop_at, take-add, take-take, drop-drop}
-use Rattle.answers.proofs.ResultLaws.{not_good, good_same, bind_good}
+use Rattle.answers.proofs.ResultLaws.{not_ok, ok_same, bind_ok}
 use Rattle.bits.specs.Bits.{bits_in, bits_of, payload, read_at}
 use Rattle.bits.proofs.ListLaws.{drop_take}
 use Rattle.bits.proofs.TestLaws.{by_test, and_true}
@@ -19,8 +20,8 @@ use Rattle.bits.proofs.Main.{read_exactly}
 use Rattle.layout.specs.Layouts.{width_of, rule_of, Allowed, Keeps, fields, bit_count}
 use Rattle.layout.specs.Values.{Ownership, ownership}
 use Rattle.layout.specs.Obeys.{Fits, AllAllowed, Owned, Crossed, written, Obeys}
-use Rattle.layout.specs.Reader.{allows, ruled, Result, ◌>>◌, refuse_if, both, read_value, short, values_of, judge, owner_rules, owned_by, cross, judged, all_zero, stuffing, ended, reading}
-use Rattle.answers.specs.Results.{good, ◌>>=◌}
+use Rattle.layout.specs.Reader.{allows, ruled, Reading, ◌>>◌, refuse_if, both, read_value, short, values_of, judge, owner_rules, owned_by, cross, judged, all_zero, stuffing, ended, reading}
+use Rattle.answers.specs.Results.{◌>>=◌}
 use Rattle.layout.specs.declared.Values.{Values}
 use Rattle.layout.specs.declared.Values.TheVariants.{Only, But, Within, WithinBut}
 use Rattle.layout.specs.declared.Rule.{Rule}
@@ -39,11 +40,11 @@ use Rattle.layout.proofs.JudgeLaws.{reading_long}
 
 -- ── results ──
 
-pub then_good : {A : Type 0} (v : Verdict) (r : Result A) (a : A) → (v >> r) ≡ good a → (v ≡ Fine) × (r ≡ good a)
+pub then_good : {A : Type 0} (v : Verdict) (r : Reading A) (a : A) → (v >> r) ≡ Ok a → (v ≡ Fine) × (r ≡ Ok a)
 then_good Fine r a e = (refl, e)
-then_good (Faulty why) r a e = not_good e
+then_good (Faulty why) r a e = not_ok e
 
-pub fine_then : {A : Type 0} (v : Verdict) (r : Result A) → v ≡ Fine → (v >> r) ≡ r
+pub fine_then : {A : Type 0} (v : Verdict) (r : Reading A) → v ≡ Fine → (v >> r) ≡ r
 fine_then v r e = rw e
 
 pub both_fine : (v w : Verdict) → both v w ≡ Fine → (v ≡ Fine) × (w ≡ Fine)
@@ -64,7 +65,7 @@ fine_if t why e = rw e
 
 -- the fact of every width, of a body's bits
 abbrev pub Stands : List ℕ → ℕ → ℕ → ℕ → Type 0
-Stands l at w n = (read_at l at w ≡ good n) ↔ ((n < 2 ^ w) × (take w (drop at l) ≡ bits_in w n))
+Stands l at w n = (read_at l at w ≡ Ok n) ↔ ((n < 2 ^ w) × (take w (drop at l) ≡ bits_in w n))
 
 pub stands : (body : List ℕ) (at w n : ℕ) → Stands (bits_of body) at w n
 stands body at w n =
@@ -74,22 +75,22 @@ stands body at w n =
 next_bits : (l : List ℕ) (at w n : ℕ) → take (w + n) (drop at l) ≡ take w (drop at l) ++ take n (drop (at + w) l)
 next_bits l at w n = take-add w n (drop at l) ∙ rw (drop-drop w at l)
 
-pub read_written : (body : List ℕ) (fs : List Field) (at : ℕ) (vs : List ℕ) → values_of fs at (bits_of body) ≡ good vs →
+pub read_written : (body : List ℕ) (fs : List Field) (at : ℕ) (vs : List ℕ) → values_of fs at (bits_of body) ≡ Ok vs →
     Fits fs vs × (take (bit_count fs) (drop at (bits_of body)) ≡ written fs vs)
 unfolding values_of Fits written
 read_written body [] at [] e = (tt, refl)
 read_written body [] at (v ∷ vs) e = let z : ◌≡◌ {A = ℕ} 0 1 = cc in absurd (omega arith)
 read_written body (f ∷ fs) at vs e =
-    let first = bind_good (read_value (read_at (bits_of body) at (width_of f))) _ vs e in
-    let later = bind_good (values_of fs (at + width_of f) (bits_of body)) _ vs first.2 in
+    let first = bind_ok (read_value (read_at (bits_of body) at (width_of f))) _ vs e in
+    let later = bind_ok (values_of fs (at + width_of f) (bits_of body)) _ vs first.2 in
     let v = first.0 in
     let rest = read_written body fs (at + width_of f) later.0 later.1 in
     let s = (stands body at (width_of f) v).0 (value_good _ v first.1) in
-    subst (λ (l : List ℕ). Fits (f ∷ fs) l × (take (width_of f + bit_count fs) (drop at (bits_of body)) ≡ written (f ∷ fs) l)) (good_same later.2)
+    subst (λ (l : List ℕ). Fits (f ∷ fs) l × (take (width_of f + bit_count fs) (drop at (bits_of body)) ≡ written (f ∷ fs) l)) (ok_same later.2)
     ((s.0, rest.0), next_bits (bits_of body) at (width_of f) (bit_count fs) ∙ rw (s.1, rest.1))
 
 pub written_read : (body : List ℕ) (fs : List Field) (at : ℕ) (vs : List ℕ) → Fits fs vs →
-    take (bit_count fs) (drop at (bits_of body)) ≡ written fs vs → values_of fs at (bits_of body) ≡ good vs
+    take (bit_count fs) (drop at (bits_of body)) ≡ written fs vs → values_of fs at (bits_of body) ≡ Ok vs
 unfolding Fits written
 written_read body [] at [] h e = unfold values_of in refl
 written_read body [] at (v ∷ vs) h e = absurd h
@@ -102,7 +103,7 @@ written_read body (f ∷ fs) at (v ∷ vs) h e =
     let there : take (bit_count fs) (drop (at + w) (bits_of body)) ≡ written fs vs =
     ap (take (bit_count fs)) (sym (drop-drop w at (bits_of body))) ∙ sym (drop_take w (bit_count fs) x) ∙ ap (drop w) e ∙ drop_at (bits_in w v) (written fs vs) w len in
     let r = (stands body at w v).1 (h.0, here) in
-    values_first (f ∷ fs) fs f at v (bits_of body) refl r ∙ ap (λ (r : Result (List ℕ)). r >>= (λ us. good (v ∷ us))) (written_read body fs (at + w) vs h.1 there)
+    values_first (f ∷ fs) fs f at v (bits_of body) refl r ∙ ap (λ (r : Reading (List ℕ)). r >>= (λ us. Ok (v ∷ us))) (written_read body fs (at + w) vs h.1 there)
 
 pub written_length : (fs : List Field) (vs : List ℕ) → Fits fs vs → length (written fs vs) ≡ bit_count fs
 unfolding Fits written
@@ -209,11 +210,11 @@ is_stuffing l n e = ap stuffing e ∙ are_zeros n
 
 -- ── the whole ──
 
-pub obeys_if : (layout : Layout) (body vs : List ℕ) → reading layout body ≡ good vs → Obeys layout body vs
+pub obeys_if : (layout : Layout) (body vs : List ℕ) → reading layout body ≡ Ok vs → Obeys layout body vs
 unfolding reading judged ended
 obeys_if layout body vs e =
     let h = then_good (refuse_if (short layout body) fault.Short) _ vs e in
-    let r = bind_good (values_of (fields layout) 0 (bits_of body)) _ vs h.1 in
+    let r = bind_ok (values_of (fields layout) 0 (bits_of body)) _ vs h.1 in
     let us = r.0 in
     let j = then_good (both (judge (fields layout) 0 us) (cross layout us)) _ vs r.2 in
     let s = then_good (refuse_if (not (stuffing (drop (bit_count (fields layout)) (bits_of body)))) fault.Stuffing) _ vs j.1 in
@@ -221,7 +222,7 @@ obeys_if layout body vs e =
     let w = read_written body (fields layout) 0 us r.1 in
     let end = drop (bit_count (fields layout)) (bits_of body) in
     let z = stuffing_is end (not-false (stuffing end) (if_fine (not (stuffing end)) fault.Stuffing s.0)) in
-    subst (Obeys layout body) (good_same s.1)
+    subst (Obeys layout body) (ok_same s.1)
     (record {
       long = ltb-false _ _ (if_fine _ _ h.0);
       fits = w.0;
@@ -231,7 +232,7 @@ obeys_if layout body vs e =
       bits = sym (take-append-drop (bit_count (fields layout)) (bits_of body)) ∙ ap (λ (l : List ℕ). l ++ end) w.1 ∙ ap (λ (l : List ℕ). written (fields layout) us ++ l) z.1;
     })
 
-pub if_obeys : (layout : Layout) (body vs : List ℕ) → Obeys layout body vs → reading layout body ≡ good vs
+pub if_obeys : (layout : Layout) (body vs : List ℕ) → Obeys layout body vs → reading layout body ≡ Ok vs
 unfolding judged ended
 if_obeys layout body vs h =
     let fs = fields layout in
@@ -241,6 +242,6 @@ if_obeys layout body vs h =
     let values = written_read body fs 0 vs h.fits front in
     let fine = fine_both _ _ (fine_judge fs 0 vs h.allowed) (fine_cross layout vs h.crossed) in
     reading_long layout body h.long
-    ∙ ap (λ (r : Result (List ℕ)). r >>= (λ us. judged layout us >> (ended layout body >> good us))) values
+    ∙ ap (λ (r : Reading (List ℕ)). r >>= (λ us. judged layout us >> (ended layout body >> Ok us))) values
     ∙ fine_then (judged layout vs) _ fine
-    ∙ fine_then (ended layout body) (good vs) (fine_if _ _ (ap not (is_stuffing _ h.zeros end)))
+    ∙ fine_then (ended layout body) (Ok vs) (fine_if _ _ (ap not (is_stuffing _ h.zeros end)))

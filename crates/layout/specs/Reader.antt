@@ -1,8 +1,7 @@
 -- Reading a body by its layout, as a computation: SHORT, then the fields in bit order, then the rules across fields, then STUFFING.
-use Rattle.std.specs.Prelude.{ℕ, ◌+◌, List, [], ◌∷◌, Bool, true, false, ◌&&◌, not, length, drop, eqb, leb, ltb}
+use Rattle.std.specs.Prelude.{ℕ, ◌+◌, List, [], ◌∷◌, Bool, true, false, ◌&&◌, not, length, drop, eqb, leb, ltb, Result, Ok, Err}
 use Rattle.std.proofs.Math.Option.{Option, none, some}
-use Rattle.answers.specs.Results as results
-use Rattle.answers.specs.Results.{good, bad, ◌>>=◌}
+use Rattle.answers.specs.Results.{◌>>=◌}
 use Rattle.bits.specs.Bits.{bits_of, read_at, read_or}
 use Rattle.layout.specs.Layouts.{width_of, rule_of, fields, bit_count, least_bytes}
 use Rattle.layout.specs.Values.{Ownership, ownership}
@@ -22,13 +21,13 @@ use Rattle.layout.specs.declared.Verdict.TheVariants.{Fine, Faulty}
 infixl 10 ◌>>◌
 -- ── results: what was read, or what is wrong ──
 
-abbrev pub Result : Type 0 → Type 0
-Result A = results.Result Fault A
+abbrev pub Reading : Type 0 → Type 0
+Reading A = Result A Fault
 
 -- a verdict on a line of its own: what follows stands where it is Fine
-abbrev pub ◌>>◌ : {A : Type 0} → Verdict → Result A → Result A
+abbrev pub ◌>>◌ : {A : Type 0} → Verdict → Reading A → Reading A
 ◌>>◌ Fine rest = rest
-◌>>◌ (Faulty fault) rest = bad fault
+◌>>◌ (Faulty fault) rest = Err fault
 
 -- a fault where the test holds
 abbrev pub refuse_if : Bool → Fault → Verdict
@@ -41,8 +40,8 @@ both Fine verdict = verdict
 both (Faulty fault) verdict = Faulty fault
 
 -- bits that are not there are SHORT, which is about bytes: it does not say how many
-abbrev pub read_value : results.Result ℕ ℕ → Result ℕ
-read_value r = read_or good (λ _. bad Short) r
+abbrev pub read_value : Result ℕ ℕ → Reading ℕ
+read_value r = read_or Ok (λ _. Err Short) r
 
 -- ── a body ──
 
@@ -64,12 +63,12 @@ ruled rule.Set v at = refuse_if (not (eqb v 1)) (Marker at)
 ruled (rule.Judged field values) v at = refuse_if (not (allows values v)) (Value field at)
 
 -- the values of fields, of which the first begins at bit `at`
-unfoldable pub values_of : List Field → ℕ → List ℕ → Result (List ℕ)
-values_of [] at bits = good []
+unfoldable pub values_of : List Field → ℕ → List ℕ → Reading (List ℕ)
+values_of [] at bits = Ok []
 values_of (f ∷ fs) at bits = do
   v ← read_value (read_at bits at (width_of f))
   vs ← values_of fs (at + width_of f) bits
-  good (v ∷ vs)
+  Ok (v ∷ vs)
 
 -- the first field whose rule is broken; the first field of all begins at bit `at`
 unfoldable pub judge : List Field → ℕ → List ℕ → Verdict
@@ -115,10 +114,10 @@ unfoldable pub ended : Layout → List ℕ → Verdict
 ended layout body = refuse_if (not (stuffing (drop (bit_count (fields layout)) (bits_of body)))) Stuffing
 
 -- the values of a body's fields, or what is wrong
-unfoldable pub reading : Layout → List ℕ → Result (List ℕ)
+unfoldable pub reading : Layout → List ℕ → Reading (List ℕ)
 reading layout body = do
   refuse_if (short layout body) Short
   vs ← values_of (fields layout) 0 (bits_of body)
   judged layout vs
   ended layout body
-  good vs
+  Ok vs

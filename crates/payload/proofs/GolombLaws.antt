@@ -1,4 +1,5 @@
 -- The laws of Exp-Golomb reading: counting zeros by index, and the bounds of a number.
+use Rattle.std.proofs.Common.{Ok}
 use Prim.Native.Nat.{ℕ, zero, suc, ◌+◌, ◌-◌, ◌*◌, ◌^◌, ◌≤◌, ◌<◌}
 use mathlib.Core.Path.{◌≡◌, refl, sym, ap, ◌∙◌}
 use mathlib.Core.List.{List, [], ◌∷◌}
@@ -10,7 +11,6 @@ use lib.Pow.{pow_mono, pow_pos}
 use borrow.Author.Tests.{eq-eqb, ne_eqb, eqb-true, eqb-false, lt-ltb, le-ltb}
 use Rattle.answers.specs.Answers.{Outcome, done, refused, refuse_if, TOO_LONG}
 use Rattle.answers.specs.Limits.{longest_payload}
-use Rattle.answers.specs.Results.{good}
 use Rattle.bits.specs.Bits.{payload, read_at}
 use Rattle.bits.proofs.TestLaws.{by_test}
 use Rattle.answers.proofs.OutcomeLaws.{not_done}
@@ -101,10 +101,10 @@ module _ (bytes : List ℕ) (count place : ℕ) where
       (b.0, omega (arith, b.1, b.2))
 
   -- the value of z bits has z bits
-  pub suffix_lt : (z next b : ℕ) → read_at (payload bytes count) next z ≡ good b → b < 2 ^ z
+  pub suffix_lt : (z next b : ℕ) → read_at (payload bytes count) next z ≡ Ok b → b < 2 ^ z
   suffix_lt z next b e = ((read_exactly bytes count next z b).0 e).0
 
-  pub number_lt : (z next b : ℕ) → z ≤ 31 → read_at (payload bytes count) next z ≡ good b → 2 ^ z - 1 + b < 4294967295
+  pub number_lt : (z next b : ℕ) → z ≤ 31 → read_at (payload bytes count) next z ≡ Ok b → 2 ^ z - 1 + b < 4294967295
   number_lt z next b h e = let s = suffix_lt z next b e in omega (arith, pow_mono {i = z} {j = 31} h, pow_pos z)
 
   after_bound : (zs : Zeros) (m : Numbered ℕ) → zeros_on 0 place (drop place (payload bytes count)) ≡ zs → golomb_after (payload bytes count) zs ≡ done m → m.number < 4294967295

@@ -1,9 +1,8 @@
 -- What is computed of Exp-Golomb numbers: the zeros before the first 1, and then one read. proofs/Main.antt says when it gives what.
-use Rattle.std.specs.Prelude.{ℕ, zero, suc, ◌+◌, ◌-◌, ◌^◌, List, [], ◌∷◌, cond, eqb, ltb, ℤ, length, drop}
+use Rattle.std.specs.Prelude.{ℕ, zero, suc, ◌+◌, ◌-◌, ◌^◌, List, [], ◌∷◌, cond, eqb, ltb, ℤ, length, drop, Result}
 use Rattle.answers.specs.Answers.{Outcome, done, refused, refuse_if, map_done, VALUE, TOO_LONG}
 use Rattle.answers.specs.Limits.{longest_payload}
 use Rattle.answers.specs.Missing.{payload_out}
-use Rattle.answers.specs.Results.{Result}
 use Rattle.bits.specs.Bits.{payload, read_at, read_or}
 use Rattle.payload.specs.Golomb.{Numbered, with_sign}
 use Rattle.payload.specs.declared.Zeros.{Zeros}

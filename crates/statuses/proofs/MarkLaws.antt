@@ -1,11 +1,11 @@
 -- The mark of no bit stands exactly where an answer has none, and is no bit.
+use Rattle.std.proofs.Common.{Ok, Err}
 use Prim.Native.Nat.{ℕ}
 use mathlib.Core.Path.{◌≡◌, refl, sym, ap, ◌∙◌, subst}
 use mathlib.Core.Logic.{⊎_elim}
 use mathlib.Core.List.{List, []}
 use native.Mathlib.Omega.{arith}
 use Rattle.answers.specs.Answers.{Carried, done, refused, map_done}
-use Rattle.answers.specs.Results.{good, bad}
 use Rattle.layout.specs.declared.Fault.{Fault}
 use Rattle.bodies.specs.Answers.{fault_number, fault_bit}
 use Rattle.bodies.proofs.PlaceLaws.{BitInside}
@@ -40,6 +40,6 @@ pub marked_fault : (why : Fault) (n : ℕ) (carried : List Carried) → BitInsid
 marked_fault why n carried h e c = subst (λ (m : ℕ). BitMarked (counted (refused m carried))) (sym e) (marked_reason (reason.Body why) carried h (ap bit_in c))
 
 -- what is said of a walk
-pub marked_walk : {A : Type 0} (view : List Placed → A) (count : A → ℕ) (w : Walk) → ((x : Stopped) → w ≡ bad x → BitSmall x.reason) → BitMarked (counted (map_done count (said view w)))
-marked_walk view count (good ms) small = marked_done (count (view ms))
-marked_walk view count (bad x) small = marked_reason x.reason (carries x.reason x.offset) (small x refl) refl
+pub marked_walk : {A : Type 0} (view : List Placed → A) (count : A → ℕ) (w : Walk) → ((x : Stopped) → w ≡ Err x → BitSmall x.reason) → BitMarked (counted (map_done count (said view w)))
+marked_walk view count (Ok ms) small = marked_done (count (view ms))
+marked_walk view count (Err x) small = marked_reason x.reason (carries x.reason x.offset) (small x refl) refl

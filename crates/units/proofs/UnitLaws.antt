@@ -1,4 +1,5 @@
 -- The laws of the unit at an offset: what it is, and what it leaves of the walk.
+use Rattle.std.proofs.Common.{Ok}
 use Prim.Native.Nat.{ℕ, ◌≤◌, ◌<◌, ◌+◌, ◌-◌}
 use mathlib.Core.Path.{◌≡◌, refl, sym, ◌∙◌, ap, subst}
 use mathlib.Core.List.{List}
@@ -8,8 +9,7 @@ use lib.ListN
 use lib.ListN.{length, get_or, drop, length-take, length-drop}
 use borrow.Author.Tests.{eqb-true, eqb-false}
 use native.Mathlib.Omega.{arith}
-use Rattle.answers.specs.Results.{good}
-use Rattle.answers.proofs.ResultLaws.{not_good}
+use Rattle.answers.proofs.ResultLaws.{not_ok}
 use Rattle.bits.proofs.TestLaws.{by_test}
 use Rattle.startcode.specs.Prefix.{begins, next_prefix}
 use Rattle.grammar.specs.Grammar.{StreamUnit, bytes}
@@ -135,18 +135,18 @@ pub record Stands (s : List ℕ) (q : State) (at : ℕ) : Type 0 where
   pub goes_on : step q (unit_between s at (next_prefix s (at + 3))) ≡ go next
   pub advanced : let u = unit_between s at (next_prefix s (at + 3)) in Advanced s q at next (next_prefix s (at + 3)) (row_length (placed (scope_in q u) u))
 
-pub stands : (s : List ℕ) (q : State) (at : ℕ) (ms : List Placed) → begins (drop at s) ≡ true → left s q at ≡ good ms → Stands s q at
+pub stands : (s : List ℕ) (q : State) (at : ℕ) (ms : List Placed) → begins (drop at s) ≡ true → left s q at ≡ Ok ms → Stands s q at
 stands s q at ms b g =
     let fits = prefix_fits s at b in
     by_test (eqb (at + 3) (length s))
-    (λ t. not_good (sym (left_cut s q at b (eqb-true (at + 3) (length s) t)) ∙ g))
+    (λ t. not_ok (sym (left_cut s q at b (eqb-true (at + 3) (length s) t)) ∙ g))
     (λ f.
     let n = eqb-false (at + 3) (length s) f in
     let h : at + 3 < length s = omega arith in
     by_test (begins (drop (at + 3) s))
-    (λ b'. not_good (sym (left_overlap s q at b b') ∙ g))
+    (λ b'. not_ok (sym (left_overlap s q at b b') ∙ g))
     (λ b'. of_step h b' (step q (here s q at b h b')) refl))
   where
     of_step : (h : at + 3 < length s) (b' : begins (drop (at + 3) s) ≡ false) (t : Step) → step q (unit_between s at (next_prefix s (at + 3))) ≡ t → Stands s q at
     of_step h b' (go q') e = record { next = q'; goes_on = e; advanced = by_step s q at b h b' (go q') e }
-    of_step h b' (stop why) e = not_good (sym (by_step s q at b h b' (stop why) e) ∙ g)
+    of_step h b' (stop why) e = not_ok (sym (by_step s q at b h b' (stop why) e) ∙ g)

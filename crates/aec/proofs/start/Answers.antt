@@ -1,11 +1,11 @@
 -- The first nine bits, and then the state that they settle to.
+use Rattle.std.proofs.Common.{Result}
 use Prim.Native.Nat.{ℕ}
 use mathlib.Core.Path.{◌≡◌, sym, ap, ◌∙◌}
 use mathlib.Core.List.{List}
 use native.Mathlib.Omega.{arith}
 use Rattle.answers.specs.Answers.{Outcome}
 use Rattle.answers.specs.Missing.{payload_out}
-use Rattle.answers.specs.Results.{Result}
 use Rattle.bits.specs.Bits.{payload, read_at, read_or}
 use Rattle.bits.specs.declared.Read.TheVariants.{Value}
 use Rattle.bits.proofs.BitLaws.{within_value, within_missing, never_wide}

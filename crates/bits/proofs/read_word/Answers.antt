@@ -1,10 +1,10 @@
 -- The four bytes are there where 32 bits are left.
+use Rattle.std.proofs.Common.{Ok}
 use Prim.Native.Nat.{ℕ, ◌+◌, ◌-◌, ◌*◌, ◌/◌, ◌%◌, ◌^◌, ◌≤◌}
 use mathlib.Core.Path.{◌≡◌, sym, ap, ◌∙◌}
 use mathlib.Core.List.{List}
 use native.Mathlib.Omega.{arith}
 use lib.ListN.{length, take, drop}
-use Rattle.answers.specs.Results.{good}
 use Rattle.bits.specs.Bits.{bits_in, bits_of, payload, read_at}
 use Rattle.bits.specs.declared.Word.TheVariants.{Bits}
 use Rattle.bits.proofs.BitLaws.{length_payload}
@@ -34,7 +34,7 @@ number-requires c = let w = within c c.if-bits_left-lt32.false in (omega arith, 
 -- the bits that are left of the four bytes at place / 8
 of_four : (s : List ℕ) (count place value : ℕ) → place + 32 ≤ count →
     take ((place / 8 + 4 - place / 8) * 8) (drop (place / 8 * 8) (bits_of s)) ≡ bits_in ((place / 8 + 4 - place / 8) * 8) value →
-    read_at (payload s count) place (32 - place % 8) ≡ good (value / 2 ^ 0 % 2 ^ (32 - place % 8))
+    read_at (payload s count) place (32 - place % 8) ≡ Ok (value / 2 ^ 0 % 2 ^ (32 - place % 8))
 of_four s count place value h e =
     let last = place + (31 - place % 8) in
     let n : place / 8 + 4 ≡ last / 8 + 1 = omega arith in

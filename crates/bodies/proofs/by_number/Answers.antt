@@ -1,10 +1,10 @@
 -- Number 4 first; then, in a head, number 2.
+use Rattle.std.proofs.Common.{Ok}
 use Prim.Native.Nat.{ℕ}
 use mathlib.Core.Path.{◌≡◌, sym, ap, ◌∙◌}
 use mathlib.Core.Bool.{Bool, cond}
 use mathlib.Core.List.{List}
 use borrow.Author.Tests.{eq-eqb, ne_eqb}
-use Rattle.answers.specs.Results.{good}
 use Rattle.bodies.specs.Answers.{extension_gives, opaque}
 use Rattle.bodies.specs.Reader.{display_of, copyright_of, not_copyright, by_number}
 use Rattle.bodies.specs.declared.Scope.{Scope}
@@ -27,13 +27,13 @@ pub returns-then-number-eq2 : goal.returns-then-number-eq2
 returns-then-number-eq2 c =
     let a = c.args in
     c.display.ensures
-    ∙ sym (not_four_in _ _ a.body.now a.number c.in-Head.is c.if-number-eq4.false ∙ ap (λ (b : Bool). cond b (display_of a.body.now) (good (opaque a.number))) (eq-eqb a.number 2 c.if-number-eq2.true))
+    ∙ sym (not_four_in _ _ a.body.now a.number c.in-Head.is c.if-number-eq4.false ∙ ap (λ (b : Bool). cond b (display_of a.body.now) (Ok (opaque a.number))) (eq-eqb a.number 2 c.if-number-eq2.true))
 
 pub returns-else-number-eq2 : goal.returns-else-number-eq2
 unfolding extension_gives
 returns-else-number-eq2 c =
     let a = c.args in
-    sym (not_four_in _ _ a.body.now a.number c.in-Head.is c.if-number-eq4.false ∙ ap (λ (b : Bool). cond b (display_of a.body.now) (good (opaque a.number))) (ne_eqb a.number 2 c.if-number-eq2.false))
+    sym (not_four_in _ _ a.body.now a.number c.in-Head.is c.if-number-eq4.false ∙ ap (λ (b : Bool). cond b (display_of a.body.now) (Ok (opaque a.number))) (ne_eqb a.number 2 c.if-number-eq2.false))
 
 pub returns-in-Picture : goal.returns-in-Picture
 unfolding extension_gives

@@ -1,31 +1,31 @@
 -- An empty body has no number, and is SHORT; any other goes by its number.
+use Rattle.std.proofs.Common.{Result, Ok, Err}
 use Prim.Native.Nat.{ℕ}
 use mathlib.Core.Path.{◌≡◌, sym, ap, ◌∙◌}
 use Rattle.bits.specs.Bits.{read_says}
 use Rattle.bits.proofs.BitLaws.{says_same, says_wide}
 use Rattle.layout.specs.Reader.{read_value}
 use Rattle.bodies.specs.Reader.{number_of, by_number, extension_result, extension_of}
-use Rattle.answers.specs.Results as results
-use Rattle.answers.specs.Results.{good, bad, ◌>>=◌}
+use Rattle.answers.specs.Results.{◌>>=◌}
 use Rattle.bodies.specs.Answers.{answer_of, extension_gives, extension_says}
 use Rattle.bodies.proofs.extension.Goals as goal
 use Rattle.bodies.proofs.extension.Goals.{After-number_of}
 
 module _ (c : After-number_of) where
-  by_read : (x : results.Result ℕ ℕ) → c.number_of.result ≡ read_says x → answer_of (read_value x >>= by_number c.args.scope c.args.body.now) ≡ extension_of c.args.scope c.args.body.now
+  by_read : (x : Result ℕ ℕ) → c.number_of.result ≡ read_says x → answer_of (read_value x >>= by_number c.args.scope c.args.body.now) ≡ extension_of c.args.scope c.args.body.now
   unfolding extension_of extension_result
   by_read x e =
       let a = c.args in
-      ap (λ (x : results.Result ℕ ℕ). answer_of (read_value x >>= by_number a.scope a.body.now)) (says_same x (number_of a.body.now) (sym e ∙ c.number_of.ensures))
+      ap (λ (x : Result ℕ ℕ). answer_of (read_value x >>= by_number a.scope a.body.now)) (says_same x (number_of a.body.now) (sym e ∙ c.number_of.ensures))
 
 pub returns-in-Value : goal.returns-in-Value
 unfolding extension_says
 returns-in-Value c =
-    ap answer_of c.by_number.ensures ∙ by_read (goal.at.returns-in-Value c).After-number_of (good c.in-Value.number) c.in-Value.is
+    ap answer_of c.by_number.ensures ∙ by_read (goal.at.returns-in-Value c).After-number_of (Ok c.in-Value.number) c.in-Value.is
 
 pub returns-in-Missing : goal.returns-in-Missing
 unfolding extension_gives extension_says
-returns-in-Missing c = by_read (goal.at.returns-in-Missing c).After-number_of (bad c.in-Missing.field-0) c.in-Missing.is
+returns-in-Missing c = by_read (goal.at.returns-in-Missing c).After-number_of (Err c.in-Missing.field-0) c.in-Missing.is
 
 pub returns-in-TooWide : goal.returns-in-TooWide
 returns-in-TooWide c = says_wide (number_of c.args.body.now) (sym c.number_of.ensures ∙ c.in-TooWide.is)

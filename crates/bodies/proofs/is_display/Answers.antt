@@ -1,8 +1,8 @@
 -- The number is the one that the first four bits write.
+use Rattle.std.proofs.Common.{Result, Ok, Err}
 use Prim.Native.Nat.{ℕ}
 use mathlib.Core.Path.{◌≡◌, sym, ap, ◌∙◌}
 use native.Mathlib.Omega.{arith}
-use Rattle.answers.specs.Results.{Result, good, bad}
 use Rattle.bits.specs.Bits.{read_says}
 use Rattle.bits.proofs.BitLaws.{says_same, says_wide}
 use Rattle.bodies.specs.Extensions.{numbered}
@@ -17,10 +17,10 @@ number_two c r e =
     sym (numbered_read body 2 (omega arith) ∙ ap (is_read 2) (says_same (number_of body) r (sym c.number_of.ensures ∙ e)))
 
 pub returns-in-Value : goal.returns-in-Value
-returns-in-Value c = number_two (goal.at.returns-in-Value c).After-number_of (good c.in-Value.number) c.in-Value.is
+returns-in-Value c = number_two (goal.at.returns-in-Value c).After-number_of (Ok c.in-Value.number) c.in-Value.is
 
 pub returns-in-Missing : goal.returns-in-Missing
-returns-in-Missing c = number_two (goal.at.returns-in-Missing c).After-number_of (bad c.in-Missing.field-0) c.in-Missing.is
+returns-in-Missing c = number_two (goal.at.returns-in-Missing c).After-number_of (Err c.in-Missing.field-0) c.in-Missing.is
 
 pub returns-in-TooWide : goal.returns-in-TooWide
 returns-in-TooWide c = says_wide (number_of c.args.body.now) (sym c.number_of.ensures ∙ c.in-TooWide.is)

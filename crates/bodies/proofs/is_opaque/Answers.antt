@@ -1,10 +1,10 @@
 -- The scope and the number decide.
+use Rattle.std.proofs.Common.{Result, Ok, Err}
 use Prim.Native.Nat.{ℕ}
 use mathlib.Core.Path.{◌≡◌, refl, sym, ap, ◌∙◌}
 use mathlib.Core.Bool.{Bool, ◌&&◌, not}
 use borrow.Author.Tests.{eq-eqb, ne_eqb}
 use lib.Dec.{eqb}
-use Rattle.answers.specs.Results.{Result, good, bad}
 use Rattle.bits.specs.Bits.{read_says}
 use Rattle.bits.proofs.BitLaws.{says_same, says_wide}
 use Rattle.bodies.specs.Extensions.{is_opaque}
@@ -24,7 +24,7 @@ opaque_by c scope r p e =
 
 -- in a head
 in_head : (c : After-number_of) (n : ℕ) → c.args.scope ≡ Head → c.number_of.result ≡ Value n → not (eqb n 4) && not (eqb n 2) ≡ is_opaque c.args.scope c.args.body.now
-in_head c n s e = opaque_by c _ (good n) s e
+in_head c n s e = opaque_by c _ (Ok n) s e
 
 pub returns-then-number-ne4 : goal.returns-then-number-ne4
 returns-then-number-ne4 c =
@@ -38,10 +38,10 @@ returns-else-number-ne4 c =
     ap not four ∙ ap (λ (t : Bool). not t && not (eqb n 2)) (sym four) ∙ in_head (goal.at.returns-else-number-ne4 c).After-number_of n c.in-Head.is c.in-Value.is
 
 pub returns-in-Picture : goal.returns-in-Picture
-returns-in-Picture c = opaque_by (goal.at.returns-in-Picture c).After-number_of _ (good c.in-Value.number) c.in-Picture.is c.in-Value.is
+returns-in-Picture c = opaque_by (goal.at.returns-in-Picture c).After-number_of _ (Ok c.in-Value.number) c.in-Picture.is c.in-Value.is
 
 pub returns-in-Missing : goal.returns-in-Missing
-returns-in-Missing c = opaque_by (goal.at.returns-in-Missing c).After-number_of _ (bad c.in-Missing.field-0) refl c.in-Missing.is
+returns-in-Missing c = opaque_by (goal.at.returns-in-Missing c).After-number_of _ (Err c.in-Missing.field-0) refl c.in-Missing.is
 
 pub returns-in-TooWide : goal.returns-in-TooWide
 returns-in-TooWide c = says_wide (number_of c.args.body.now) (sym c.number_of.ensures ∙ c.in-TooWide.is)

@@ -1,8 +1,9 @@
 -- The values that fit their fields make the record of their layout.
+use Rattle.std.proofs.Common.{Ok}
 use mathlib.Core.Path.{◌≡◌, sym, ap, ◌∙◌, subst}
 use Prim.Native.Nat.{ℕ}
 use mathlib.Core.List.{List}
-use Rattle.answers.specs.Results.{good, ◌>>=◌}
+use Rattle.answers.specs.Results.{◌>>=◌}
 use Rattle.layout.specs.Layouts.{fields}
 use Rattle.layout.specs.Obeys.{Fits}
 use Rattle.layout.proofs.LayoutLaws.{fits_length}
@@ -35,16 +36,16 @@ pub returns-in-Plain : goal.returns-in-Plain
 unfolding extension_gives
 returns-in-Plain c =
     let vs = c.args.values.now in
-    sym (ap (λ (w : Recorded). record_by w vs) c.in-Plain.is ∙ ap (λ o. recorded o >>= (λ a. good (display a))) c.plain_record.ensures)
+    sym (ap (λ (w : Recorded). record_by w vs) c.in-Plain.is ∙ ap (λ o. recorded o >>= (λ a. Ok (display a))) c.plain_record.ensures)
 
 pub returns-in-Coloured : goal.returns-in-Coloured
 unfolding extension_gives
 returns-in-Coloured c =
     let vs = c.args.values.now in
-    sym (ap (λ (w : Recorded). record_by w vs) c.in-Coloured.is ∙ ap (λ o. recorded o >>= (λ a. good (display a))) c.coloured_record.ensures)
+    sym (ap (λ (w : Recorded). record_by w vs) c.in-Coloured.is ∙ ap (λ o. recorded o >>= (λ a. Ok (display a))) c.coloured_record.ensures)
 
 pub returns-in-Copyright : goal.returns-in-Copyright
 unfolding extension_gives
 returns-in-Copyright c =
     let vs = c.args.values.now in
-    sym (ap (λ (w : Recorded). record_by w vs) c.in-Copyright.is ∙ ap (λ o. recorded o >>= (λ a. good (copyright a))) c.copyright_record.ensures)
+    sym (ap (λ (w : Recorded). record_by w vs) c.in-Copyright.is ∙ ap (λ o. recorded o >>= (λ a. Ok (copyright a))) c.copyright_record.ensures)

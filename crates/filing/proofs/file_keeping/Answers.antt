@@ -1,11 +1,11 @@
 -- The order of the tests, and then the second pass.
+use Rattle.std.proofs.Common.{Ok, Err}
 use Prim.Native.Nat.{ℕ}
 use mathlib.Core.Path.{◌≡◌, refl, sym, ap, ◌∙◌, subst}
 use mathlib.Core.List.{List}
 use native.Mathlib.Omega.{arith}
 use lib.ListN.{length}
 use Rattle.answers.specs.Answers.{Outcome, done, refused}
-use Rattle.answers.specs.Results.{good, bad}
 use Rattle.grammar.specs.Rows.{Placed, rows_from}
 use Rattle.grammar.specs.Reader.{Walk, walk, said}
 use Rattle.grammar.proofs.Filing.{said_done}
@@ -19,7 +19,7 @@ use Rattle.filing.proofs.file_keeping.Goals.{In-Good}
 
 -- a stream that was counted: its units
 module _ (k : In-Good) where
-  found : (ms : List Placed) × (walk k.args.stream.now ≡ good ms) × (length ms ≡ k.in-Good.units)
+  found : (ms : List Placed) × (walk k.args.stream.now ≡ Ok ms) × (length ms ≡ k.in-Good.units)
   found = said_done length (walk k.args.stream.now) _ (sym k.check_keeping.ensures.0 ∙ ap checked_says k.in-Good.is)
 
 -- the spans that were kept of them
@@ -41,10 +41,10 @@ write_rows-requires c =
     record { all = f.0; walked = d.1; short = d.0; room = omega (arith, c.if-rows-units.false); kept = kept (goal.at.write_rows-requires c).In-Good }
 
 pub returns-else-rows-units : goal.returns-else-rows-units
-returns-else-rows-units c = let a = c.args in let f = found (goal.at.returns-else-rows-units c).In-Good in let l = f.2 in settled a.stream.now a.rows.now _ _ (good f.0) (into_good a.stream.now _ f.0 f.1 (omega (arith, c.if-rows-units.false))) (let answer : ℕ → Outcome Totals = λ n. done (record { units = n }) in ap answer (sym f.2)) (c.write_rows.ensures ∙ ap (λ (x : Walk). words_after (said (rows_from 0) x) a.rows.now) (walk_good a.stream.now f.0 f.1).1)
+returns-else-rows-units c = let a = c.args in let f = found (goal.at.returns-else-rows-units c).In-Good in let l = f.2 in settled a.stream.now a.rows.now _ _ (Ok f.0) (into_good a.stream.now _ f.0 f.1 (omega (arith, c.if-rows-units.false))) (let answer : ℕ → Outcome Totals = λ n. done (record { units = n }) in ap answer (sym f.2)) (c.write_rows.ensures ∙ ap (λ (x : Walk). words_after (said (rows_from 0) x) a.rows.now) (walk_good a.stream.now f.0 f.1).1)
 
 pub returns-in-Refused : goal.returns-in-Refused
 returns-in-Refused c =
     let a = c.args in
     let k = said_refused length (walk a.stream.now) _ _ (sym c.check_keeping.ensures.0 ∙ ap checked_says c.in-Refused.is) in
-    settled a.stream.now a.rows.now _ _ (bad k.0) (into_bad a.stream.now _ k.0 k.1) (λ i. refused (k.2 i) (k.3 i)) refl
+    settled a.stream.now a.rows.now _ _ (Err k.0) (into_bad a.stream.now _ k.0 k.1) (λ i. refused (k.2 i) (k.3 i)) refl

@@ -1,4 +1,5 @@
 -- The length, then the values, then their verdict and that of the end.
+use Rattle.std.proofs.Common.{Ok}
 use Prim.Native.Nat.{ℕ, ◌≤◌}
 use mathlib.Core.Path.{◌≡◌, sym, ap, ◌∙◌}
 use mathlib.Core.List.{List}
@@ -8,7 +9,6 @@ use Rattle.bits.specs.Bits.{bits_of}
 use Rattle.layout.specs.Layouts.{fields, least_bytes}
 use Rattle.layout.specs.Reader.{cross, ended, both}
 use Rattle.layout.specs.Inside.{taken_from}
-use Rattle.answers.specs.Results.{good}
 use Rattle.layout.specs.Answers.{verdict_says}
 use Rattle.layout.specs.declared.Layout.{Layout}
 use Rattle.layout.specs.declared.Verdict.{Verdict}
@@ -28,7 +28,7 @@ module _ (c : In-Fine) where
   abbrev vs : List ℕ
   vs = take (length (fields layout)) c.read_fields-read.result.values
 
-  were_taken : taken_from (fields layout) 0 (bits_of body) ≡ good vs
+  were_taken : taken_from (fields layout) 0 (bits_of body) ≡ Ok vs
   were_taken = sym c.read_fields-read.ensures ∙ ap (λ (v : Verdict). verdict_says v vs) c.in-Fine.is
 
   enough : least_bytes layout ≤ length body

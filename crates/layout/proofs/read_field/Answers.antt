@@ -1,8 +1,8 @@
 -- The bits that are read are the field's, and its rule judges their value.
+use Rattle.std.proofs.Common.{Ok}
 use Prim.Native.Nat.{ℕ, ◌+◌, ◌≤◌}
 use mathlib.Core.Path.{◌≡◌, sym, ap, ◌∙◌}
 use mathlib.Core.List.{List}
-use Rattle.answers.specs.Results.{good}
 use Rattle.bits.specs.Bits.{bits_of, payload, read_at, read_within}
 use Rattle.bits.specs.declared.Read.{Read}
 use Rattle.bits.specs.declared.Read.TheVariants.{Value}
@@ -34,11 +34,11 @@ module _ (c : After-read_bits) where
 
 -- a value that is read, and what is found of it
 judged : (c : After-read_bits) (v : ℕ) (found w : Verdict) → c.read_bits.result ≡ Value v → found ≡ ruled (rule_of c.args.field) v c.args.at → found ≡ w →
-    taken c.args.field c.args.at (bits_of c.args.body.now) ≡ (w >> good v)
+    taken c.args.field c.args.at (bits_of c.args.body.now) ≡ (w >> Ok v)
 judged c v found w r first e =
     let a = c.args in
     taken_value a.field a.at v (bits_of a.body.now) (sym (inside c) ∙ within_value (before c) a.at (width c) (narrow c) v (read_is c _ r))
-    ∙ ap (λ (x : Verdict). x >> good v) (sym first ∙ e)
+    ∙ ap (λ (x : Verdict). x >> Ok v) (sym first ∙ e)
 
 pub returns-in-Fine : goal.returns-in-Fine
 returns-in-Fine c = sym (judged (goal.at.returns-in-Fine c).After-read_bits _ _ _ c.in-Value.is c.ruled_on.ensures c.in-Fine.is)

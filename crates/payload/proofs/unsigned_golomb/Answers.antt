@@ -1,4 +1,5 @@
 -- The answer goes by the zeros, and then by the one read of the bits after the 1.
+use Rattle.std.proofs.Common.{Ok}
 use Prim.Native.Nat.{ℕ, ◌+◌, ◌-◌, ◌*◌, ◌%◌, ◌^◌, ◌≤◌}
 use mathlib.Core.Path.{◌≡◌, sym, ap, ◌∙◌}
 use native.Mathlib.Omega.{arith}
@@ -6,7 +7,6 @@ use native.Mathlib.Nat.{one-mul}
 use lib.Pow.{shl_exact, pow_pos}
 use lib.ListN.{length}
 use Rattle.answers.specs.Answers.{Outcome, done}
-use Rattle.answers.specs.Results.{good}
 use Rattle.bits.specs.Bits.{payload, read_at}
 use Rattle.bits.specs.declared.Read.TheVariants.{Value}
 use Rattle.bits.proofs.BitLaws.{within_value, within_missing, never_wide}
@@ -52,7 +52,7 @@ module _ (c : After-read_bits) where
   -- what was read is the read's own answer, since at most 31 bits were asked for
   read_value : (b : ℕ) → c.read_bits.result ≡ Value b →
       let a = c.args in
-      read_at (payload a.bytes.now a.count) at z ≡ good b
+      read_at (payload a.bytes.now a.count) at z ≡ Ok b
   read_value b e = let h = bounds.0 in within_value _ at z (omega arith) b (sym c.read_bits.ensures ∙ e)
 
   -- the shift loses nothing
