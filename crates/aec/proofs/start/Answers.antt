@@ -24,7 +24,7 @@ pub settle-requires : goal.settle-requires
 settle-requires c =
     let a = c.args in
     let n = nine_bits a.bytes.now a.count _ (within_value _ 0 9 (omega arith) _ (sym c.read_bits.ensures ∙ c.in-Value.is)) in
-    (c.if-bytes-gt-LIMIT.false, n.0, omega arith)
+    (n.0, omega arith)
 
 -- the answer goes by the read
 module _ (c : After-read_bits) where
