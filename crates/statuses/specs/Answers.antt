@@ -1,5 +1,6 @@
 -- An answer of the papers by value: a status, an offset, a count and a bit; a part of a stream; the number of a kind.
 use Rattle.std.specs.Prelude.{ℕ, ◌+◌, ◌<◌, ◌≡◌, ◌≢◌, List, [], ◌∷◌}
+use Rattle.std.specs.Prelude as prelude
 use Rattle.std.proofs.Math.Option.{Option, none, some}
 use Rattle.answers.specs.Answers.{Carried, at_offset, at_bit, missing, Outcome, done, refused, map_done, FULL}
 use Rattle.startcode.specs.declared.Kind.{Kind}
@@ -30,6 +31,11 @@ bit_in [] = no_bit
 bit_in (at_offset n ∷ more) = bit_in more
 bit_in (at_bit n ∷ more) = n
 bit_in (missing n ∷ more) = bit_in more
+
+-- what a refusal with a bit, or without one, carries of it
+abbrev pub carried_bit : prelude.Option ℕ → List Carried
+carried_bit prelude.None = []
+carried_bit (prelude.Some n) = at_bit n ∷ []
 
 -- A status is the papers' number; a refusal hands nothing over.
 abbrev pub counted : Outcome ℕ → Answer
