@@ -14,7 +14,7 @@ ghost use Rattle.aec.specs.Says.{started_says, stepped_says, decoded_says, decod
 ghost use Rattle.aec.specs.Inside.{checked_says, doubled_says, shifted_says, settled_says, SplitRanges};
 ghost use Rattle.aec.specs.Inside.{tried_says, head_of, updating, updating_pair};
 
-use bits::{Bit, Read};
+use bits::{Payload, ReadError};
 use contexts::Context;
 use renorm::Renormalised;
 
@@ -181,9 +181,10 @@ fn take_bit(bytes: &[u8], count: usize, value: u32, place: usize) -> Doubled
     ensures { doubled_says result ≡ double_of (drop place (payload bytes.now count)) value place }
 {
     let twice = value * 2;
-    match bits::read_bit(bytes, count, place) {
-        Bit::Is(bit) => Doubled::Done(twice + bit, place + 1),
-        Bit::Missing => Doubled::Refused(Refusal::PayloadOut),
+    let bits = Payload { bytes, count };
+    match bits.bit(place) {
+        Some(bit) => Doubled::Done(twice + bit, place + 1),
+        None => Doubled::Refused(Refusal::PayloadOut),
     }
 }
 
@@ -265,13 +266,14 @@ pub fn start(bytes: &[u8], count: usize) -> Started
     if LIMIT < bytes.len() {
         return Started::TooLong;
     }
-    match bits::read_bits(bytes, count, 0, 9) {
-        Read::Value(value) => match settle(bytes, count, 255, value, 9) {
+    let bits = Payload { bytes, count };
+    match bits.read(0, 9) {
+        Ok(value) => match settle(bytes, count, 255, value, 9) {
             Settled::Done(state) => Started::Done(state),
             Settled::Refused(_) => Started::PayloadOut(1), // it wants bits one by one, and refuses for nothing else
         },
-        Read::Missing(missing) => Started::PayloadOut(missing),
-        Read::TooWide => Started::TooLong, // never: nine bits are asked for
+        Err(ReadError::Missing(missing)) => Started::PayloadOut(missing),
+        Err(ReadError::TooWide) => Started::TooLong, // never: nine bits are asked for
     }
 }
 

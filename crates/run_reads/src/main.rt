@@ -2,7 +2,7 @@
 // its answer. tests/reads_oracle.py reads the questions from this file, works the answers out by itself, and says what the numbers are.
 #![tactic(auto)]
 
-use bits::{Bit, Read};
+use bits::{Payload, ReadError};
 use bodies::SequenceHeader;
 use std::io;
 
@@ -47,21 +47,21 @@ fn hex(rt: &impl Print, s: &[u8]) -> io::Result<()> {
 
 // ── bits ──
 
-fn bit(rt: &impl Print, b: Bit) -> io::Result<()> {
+fn bit(rt: &impl Print, b: Option<u32>) -> io::Result<()> {
     match b {
-        Bit::Is(value) => small(rt, value),
-        Bit::Missing => none(rt),
+        Some(value) => small(rt, value),
+        None => none(rt),
     }
 }
 
-fn value(rt: &impl Print, r: Read) -> io::Result<()> {
+fn value(rt: &impl Print, r: Result<u32, ReadError>) -> io::Result<()> {
     match r {
-        Read::Value(v) => small(rt, v),
-        Read::Missing(count) => {
+        Ok(v) => small(rt, v),
+        Err(ReadError::Missing(count)) => {
             say(rt, b" missing")?;
             small(rt, count)
         }
-        Read::TooWide => say(rt, b" wide"),
+        Err(ReadError::TooWide) => say(rt, b" wide"),
     }
 }
 
@@ -77,8 +77,9 @@ fn read_in(
     size(rt, count)?;
     size(rt, place)?;
     small(rt, width)?;
-    bit(rt, bits::read_bit(bytes, count, place))?;
-    value(rt, bits::read_bits(bytes, count, place, width))?;
+    let payload = Payload { bytes, count };
+    bit(rt, payload.bit(place))?;
+    value(rt, payload.read(place, width))?;
     end(rt)
 }
 

@@ -84,7 +84,7 @@ pub fn slice_step(rule: SliceRule, least: u32, code: u8, body: &[u8]) -> Step
     if all_zero(body) {
         return Step::Stop(Reason::Body(Fault::Short));
     }
-    let number = bits::wide(code);
+    let number = u32::from(code);
     if !rule.tested {
         return Step::Go(State::Slices(rule, number + 1));
     }
