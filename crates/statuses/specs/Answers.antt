@@ -1,6 +1,5 @@
 -- An answer of the papers by value: a status, an offset, a count and a bit; a part of a stream; the number of a kind.
-use Rattle.std.specs.Prelude.{ℕ, ◌+◌, ◌<◌, ◌≡◌, ◌≢◌, List, [], ◌∷◌}
-use Rattle.std.proofs.Math.Option.{Option, none, some}
+use Rattle.std.specs.Prelude.{ℕ, ◌+◌, ◌<◌, ◌≡◌, ◌≢◌, Option, Some, None, List, [], ◌∷◌}
 use Rattle.answers.specs.Answers.{Carried, at_offset, at_bit, missing, Outcome, done, refused, map_done, FULL}
 use Rattle.startcode.specs.declared.Kind.{Kind}
 use Rattle.startcode.specs.declared.Kind.TheVariants.{Slice, SequenceHeader, SequenceEnd, UserData, IPicture, Extension, PBPicture, EditCode}
@@ -54,8 +53,8 @@ AnsweredByReading stream lent after a = ByReading stream lent after (λ n. (a.st
 
 -- where the body of a row lies in the stream; for no row the empty part at the stream's start
 abbrev pub part_at : Option Row → Part
-part_at none = record { offset = 0; length = 0 }
-part_at (some r) = record { offset = r.offset + 4; length = r.length }
+part_at None = record { offset = 0; length = 0 }
+part_at (Some r) = record { offset = r.offset + 4; length = r.length }
 
 -- ── start codes ──
 
