@@ -30,6 +30,11 @@ bit_in (at_offset n ∷ more) = bit_in more
 bit_in (at_bit n ∷ more) = n
 bit_in (missing n ∷ more) = bit_in more
 
+-- what a refusal with a bit, or without one, carries of it
+abbrev pub carried_bit : Option ℕ → List Carried
+carried_bit None = []
+carried_bit (Some n) = at_bit n ∷ []
+
 -- A status is the papers' number; a refusal hands nothing over.
 abbrev pub counted : Outcome ℕ → Answer
 counted (done n) = record { status = 0; offset = 0; count = n; bit = no_bit }
