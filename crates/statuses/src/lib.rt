@@ -134,33 +134,19 @@ pub fn check(stream: &[u8]) -> Answer
     }
 }
 
-fn wide(x: u32) -> usize
-    ensures { (result ≡ x) × (result < 4294967296) }
-{
-    x as usize
-}
-
-fn word(words: &[u32], i: usize) -> usize
-    requires { i < length words.now }
-    ensures { (result ≡ get_or words.now i 0) × (result < 4294967296) }
-{
-    wide(words[i])
-}
-
 // Where the body of row i lies in the stream.
 pub fn row_body(stream: &[u8], rows: &[u32], i: usize) -> Part
     ensures { result ≡ part_at (existing stream.now rows.now i) }
 {
-    if rows::row_exists(stream, rows, i) {
-        Part {
-            offset: word(rows, i * 3 + 1) + 4,
-            length: word(rows, i * 3 + 2),
-        }
-    } else {
-        Part {
+    match rows::body_at(stream, rows, i) {
+        Some(body) => Part {
+            offset: body.start,
+            length: body.length,
+        },
+        None => Part {
             offset: 0,
             length: 0,
-        }
+        },
     }
 }
 
