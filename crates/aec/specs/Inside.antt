@@ -2,6 +2,7 @@
 use Rattle.std.specs.Prelude.{ℕ, ◌+◌, ◌-◌, ◌*◌, ◌≡◌, Bool, List, cond, eqb, ◌&&◌, Option, Some, None}
 use Rattle.answers.specs.Answers.{Outcome, done, and_then}
 use Rattle.bits.specs.Bits.{payload}
+use Rattle.bits.specs.declared.Payload.{Payload}
 use Rattle.contexts.specs.Contexts.{good_context, update_of}
 use Rattle.contexts.specs.declared.Context.{Context}
 use Rattle.aec.specs.Bins.{Parts, Guess, refused_first, step_of, pair_of}
@@ -18,6 +19,10 @@ itself a = a
 
 abbrev pub of_bit : Doubled → ℕ × ℕ
 of_bit d = (d.number, d.next)
+
+-- a payload's bits
+abbrev pub held : Payload → List ℕ
+held bits = payload bits.bytes.now bits.count
 
 -- the bits of a payload within the limit and a state within its ranges, or what is refused before a bit is read
 abbrev pub guarded_of : List ℕ → ℕ → State → Bool → Outcome (List ℕ × State)

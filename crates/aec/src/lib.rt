@@ -3,19 +3,18 @@
 
 ghost use Rattle.std.specs.Prelude.{◌≡◌, ℕ, List, Bool, true, ◌*◌, ◌/◌, ◌≤◌, ◌<◌, length, drop};
 ghost use Rattle.answers.specs.Limits.{longest_payload, most_bits};
-ghost use Rattle.bits.specs.Bits.{payload};
 ghost use Rattle.contexts.specs.Contexts.{good_context, update_of};
 ghost use Rattle.aec.specs.Bins.{Guess, good_state};
 ghost use Rattle.aec.specs.Bins.{double_of, normalise_of, widen_of, settle_of, start_of};
 ghost use Rattle.aec.specs.Bins.{split_of, misses_of, remainder_of, unpredicted_of, bin_of, step_of};
 ghost use Rattle.aec.specs.Bins.{pair_of, plain_of, bypass_of, stuffing_of, decode_of, decode_pair_of};
 ghost use Rattle.aec.specs.Says.{started_says, says, of_bin, stepped_says, decoded_says, decoded_pair_says};
-ghost use Rattle.aec.specs.Inside.{itself, guarded_of, of_bit, of_split, of_prediction, Quickly, head_of};
+ghost use Rattle.aec.specs.Inside.{itself, held, guarded_of, of_bit, of_split, of_prediction, Quickly, head_of};
 ghost use Rattle.aec.specs.Inside.{bin_by, own_prediction, good_pair, pair_prediction, update_pair};
 
 mod ranges;
 
-use bits::{Bit, Read};
+use bits::{Payload, ReadError};
 use contexts::Context;
 use ranges::{Prediction, Split};
 use renorm::Renormalised;
@@ -86,9 +85,8 @@ struct Shift {
 // A payload within the limit.
 #[derive(Clone, Copy)]
 struct Limited<'a> {
-    bytes: &'a [u8],
-    count: usize,
-    ghost short: { length bytes.now ≤ longest_payload },
+    bits: Payload<'a>,
+    ghost short: { length bits.bytes.now ≤ longest_payload },
 }
 
 // Such a payload and a state within its ranges for it.
@@ -96,7 +94,7 @@ struct Limited<'a> {
 struct Guarded<'a> {
     limited: Limited<'a>,
     state: State,
-    ghost good: { good_state (length (payload limited.bytes.now limited.count)) state ≡ true },
+    ghost good: { good_state (length (held limited.bits)) state ≡ true },
 }
 
 // These, and how the range is split where the bin is not the predicted one.
@@ -137,31 +135,31 @@ fn good_state(x: State, end: usize) -> bool
 impl Limited<'_> {
     // The number of the payload's bits.
     fn bit_length(self) -> usize
-        ensures { result ≡ length (payload self.entry.bytes.now self.entry.count) }
+        ensures { result ≡ length (held self.entry.bits) }
     {
-        let all = self.bytes.len() * 8;
-        if self.count < all { self.count } else { all }
+        let all = self.bits.bytes.len() * 8;
+        self.bits.count.min(all)
     }
 
     // Twice a number and the next bit: every bit but the first nine is read here.
     fn take_bit(self, value: u32, place: usize) -> Result<Doubled, Refusal>
         requires { value < 2147483648 }
-        ensures { says of_bit result ≡ double_of (drop place (payload self.entry.bytes.now self.entry.count)) value place }
+        ensures { says of_bit result ≡ double_of (drop place (held self.entry.bits)) value place }
     {
         let twice = value * 2;
-        match bits::read_bit(self.bytes, self.count, place) {
-            Bit::Is(bit) => Ok(Doubled {
+        match self.bits.bit(place) {
+            Some(bit) => Ok(Doubled {
                 number: twice + bit,
                 next: place + 1,
             }),
-            Bit::Missing => Err(Refusal::PayloadOut),
+            None => Err(Refusal::PayloadOut),
         }
     }
 
     // Doubles the value, with the next bits, while it is below 256, and counts how often.
     fn normalise(self, value: u32, place: usize) -> Result<Shift, Refusal>
-        requires { (place ≤ length (payload self.bytes.now self.count)) × (value < 1048576) }
-        ensures { says itself result ≡ normalise_of (payload self.entry.bytes.now self.entry.count) value place }
+        requires { (place ≤ length (held self.bits)) × (value < 1048576) }
+        ensures { says itself result ≡ normalise_of (held self.entry.bits) value place }
     {
         let mut z = Shift {
             value,
@@ -181,8 +179,8 @@ impl Limited<'_> {
 
     // Doubles the range while it is below 256, and the value with it, with the next bits.
     fn widen(self, value: u32, range: u32, place: usize) -> Result<Shift, Refusal>
-        requires { (place ≤ length (payload self.bytes.now self.count)) × (value < 768 * range) × (range < 512) }
-        ensures { says itself result ≡ widen_of (payload self.entry.bytes.now self.entry.count) value range place }
+        requires { (place ≤ length (held self.bits)) × (value < 768 * range) × (range < 512) }
+        ensures { says itself result ≡ widen_of (held self.entry.bits) value range place }
     {
         let mut z = Shift {
             value,
@@ -202,8 +200,8 @@ impl Limited<'_> {
 
     // The state of a normalised value.
     fn settle(self, rt: u32, value: u32, place: usize) -> Result<State, Refusal>
-        requires { (place ≤ length (payload self.bytes.now self.count)) × (value < 1048576) }
-        ensures { says itself result ≡ settle_of (payload self.entry.bytes.now self.entry.count) rt value place }
+        requires { (place ≤ length (held self.bits)) × (value < 1048576) }
+        ensures { says itself result ≡ settle_of (held self.entry.bits) rt value place }
     {
         let z = self.normalise(value, place)?;
         Ok(State {
@@ -217,31 +215,31 @@ impl Limited<'_> {
 }
 
 // The state that a payload begins with.
-pub fn start(bytes: &[u8], count: usize) -> Result<State, StartError>
-    ensures { started_says result ≡ start_of bytes.now count }
+pub fn start(bits: Payload<'_>) -> Result<State, StartError>
+    ensures { started_says result ≡ start_of bits.entry.bytes.now bits.entry.count }
 {
-    if LIMIT < bytes.len() {
+    if LIMIT < bits.bytes.len() {
         return Err(StartError::TooLong);
     }
-    let limited = Limited { bytes, count };
-    match bits::read_bits(bytes, count, 0, 9) {
-        Read::Value(value) => match limited.settle(255, value, 9) {
+    let limited = Limited { bits };
+    match bits.read(0, 9) {
+        Ok(value) => match limited.settle(255, value, 9) {
             Ok(state) => Ok(state),
             Err(_) => Err(StartError::PayloadOut(1)), // it wants bits one by one, and refuses for nothing else
         },
-        Read::Missing(missing) => Err(StartError::PayloadOut(missing)),
-        Read::TooWide => Err(StartError::TooLong), // never: nine bits are asked for
+        Err(ReadError::Missing(missing)) => Err(StartError::PayloadOut(missing)),
+        Err(ReadError::TooWide) => Err(StartError::TooLong), // never: nine bits are asked for
     }
 }
 
 // What is refused before a bit is read.
-fn guard(bytes: &[u8], count: usize, state: State, contexts: bool) -> Result<Guarded<'_>, Refusal>
-    ensures { says {B = List ℕ × State} (λ at. (payload at.limited.bytes.now at.limited.count, at.state)) result ≡ guarded_of bytes.now count state contexts }
+fn guard(bits: Payload<'_>, state: State, contexts: bool) -> Result<Guarded<'_>, Refusal>
+    ensures { says {B = List ℕ × State} (λ at. (held at.limited.bits, at.state)) result ≡ guarded_of bits.entry.bytes.now bits.entry.count state contexts }
 {
-    if LIMIT < bytes.len() {
+    if LIMIT < bits.bytes.len() {
         return Err(Refusal::TooLong);
     }
-    let limited = Limited { bytes, count };
+    let limited = Limited { bits };
     if !good_state(state, limited.bit_length()) {
         return Err(Refusal::BadState);
     }
@@ -299,7 +297,7 @@ impl<'a> Guarded<'a> {
     // One bin where no more than four bytes are needed. Its callers split the range and call the slow way themselves, on a copy, so
     // that the state can stay in registers: that leaves it small enough to be inlined into each.
     fn step(self, g: Prediction, y: Split) -> Option<Stepped>
-        ensures { Quickly result (bin_of (payload self.entry.limited.bytes.now self.entry.limited.count) self.entry.state g.p (of_split y)) }
+        ensures { Quickly result (bin_of (held self.entry.limited.bits) self.entry.state g.p (of_split y)) }
     {
         if self.misses(y) {
             return Missed { at: self, split: y }.quick(g);
@@ -312,7 +310,7 @@ impl<'a> Guarded<'a> {
 
     // One bin by single bits. It splits the range itself: so it is too large to be inlined.
     fn slow(self, g: Prediction) -> Result<Stepped, Refusal>
-        ensures { stepped_says result ≡ step_of (payload self.entry.limited.bytes.now self.entry.limited.count) self.entry.state (of_prediction g) }
+        ensures { stepped_says result ≡ step_of (held self.entry.limited.bits) self.entry.state (of_prediction g) }
     {
         let y = self.split(g);
         if self.misses(y) {
@@ -349,7 +347,7 @@ impl<'a> Guarded<'a> {
 impl Missed<'_> {
     // valueT less t. Where s is past valueS it borrows 256 and takes the next bit first.
     fn remainder(self) -> Result<Doubled, Refusal>
-        ensures { says of_bit result ≡ remainder_of (payload self.entry.at.limited.bytes.now self.entry.at.limited.count) self.entry.at.state (of_split self.entry.split) }
+        ensures { says of_bit result ≡ remainder_of (held self.entry.at.limited.bits) self.entry.at.state (of_split self.entry.split) }
     {
         let x = self.at.state;
         let y = self.split;
@@ -380,14 +378,14 @@ impl Missed<'_> {
 
     // By the bits of four bytes at once, where these hold all that it takes.
     fn quick(self, g: Prediction) -> Option<Stepped>
-        ensures { Quickly result (bin_of (payload self.entry.at.limited.bytes.now self.entry.at.limited.count) self.entry.at.state g.p (of_split self.entry.split)) }
+        ensures { Quickly result (bin_of (held self.entry.at.limited.bits) self.entry.at.state g.p (of_split self.entry.split)) }
     {
-        let of = self.at.limited;
+        let bits = self.at.limited.bits;
         let x = self.at.state;
         let y = self.split;
         match renorm::renormalise(
-            of.bytes,
-            of.count,
+            bits.bytes,
+            bits.count,
             x.place,
             self.head(),
             y.s != x.vs,
@@ -409,7 +407,7 @@ impl Missed<'_> {
 
     // The state after the bin, by single bits.
     fn unpredicted(self) -> Result<State, Refusal>
-        ensures { says itself result ≡ unpredicted_of (payload self.entry.at.limited.bytes.now self.entry.at.limited.count) self.entry.at.state (of_split self.entry.split) }
+        ensures { says itself result ≡ unpredicted_of (held self.entry.at.limited.bits) self.entry.at.state (of_split self.entry.split) }
     {
         let of = self.at.limited;
         let v = self.remainder()?;
@@ -419,11 +417,11 @@ impl Missed<'_> {
 }
 
 // A bin of no context, predicted 0.
-fn plain(bytes: &[u8], count: usize, x: State, lg: u32) -> Result<Stepped, Refusal>
+fn plain(bits: Payload<'_>, x: State, lg: u32) -> Result<Stepped, Refusal>
     requires { (4 ≤ lg) × (lg ≤ 1023) }
-    ensures { stepped_says result ≡ plain_of bytes.now count x lg }
+    ensures { stepped_says result ≡ plain_of bits.entry.bytes.now bits.entry.count x lg }
 {
-    let at = guard(bytes, count, x, true)?;
+    let at = guard(bits, x, true)?;
     let g = Prediction { p: 0, lg };
     match at.step(g, at.split(g)) {
         Some(done) => Ok(done),
@@ -432,17 +430,17 @@ fn plain(bytes: &[u8], count: usize, x: State, lg: u32) -> Result<Stepped, Refus
 }
 
 // A bypass bin.
-pub fn bypass(bytes: &[u8], count: usize, x: State) -> Result<Stepped, Refusal>
-    ensures { stepped_says result ≡ bypass_of bytes.now count x }
+pub fn bypass(bits: Payload<'_>, x: State) -> Result<Stepped, Refusal>
+    ensures { stepped_says result ≡ bypass_of bits.entry.bytes.now bits.entry.count x }
 {
-    plain(bytes, count, x, 1023)
+    plain(bits, x, 1023)
 }
 
 // The stuffing bin. It stands where few bits are left.
-pub fn stuffing(bytes: &[u8], count: usize, x: State) -> Result<Stepped, Refusal>
-    ensures { stepped_says result ≡ stuffing_of bytes.now count x }
+pub fn stuffing(bits: Payload<'_>, x: State) -> Result<Stepped, Refusal>
+    ensures { stepped_says result ≡ stuffing_of bits.entry.bytes.now bits.entry.count x }
 {
-    guard(bytes, count, x, true)?.slow(Prediction { p: 0, lg: 4 })
+    guard(bits, x, true)?.slow(Prediction { p: 0, lg: 4 })
 }
 
 // What a bin goes by: one context, or a pair.
@@ -529,15 +527,10 @@ impl Contexts for Pair {
 }
 
 // A bin of its contexts, which are updated.
-fn bin_by<C: Contexts>(
-    bytes: &[u8],
-    count: usize,
-    x: State,
-    contexts: C,
-) -> Result<Decoded<C>, Refusal>
-    ensures { says of_bin result ≡ bin_by C.good C.predicts C.update bytes.now count x contexts }
+fn bin_by<C: Contexts>(bits: Payload<'_>, x: State, contexts: C) -> Result<Decoded<C>, Refusal>
+    ensures { says of_bin result ≡ bin_by C.good C.predicts C.update bits.entry.bytes.now bits.entry.count x contexts }
 {
-    let at = guard(bytes, count, x, contexts.is_good())?;
+    let at = guard(bits, x, contexts.is_good())?;
     let g = contexts.prediction();
     let done = match at.step(g, at.split(g)) {
         Some(done) => done,
@@ -551,25 +544,23 @@ fn bin_by<C: Contexts>(
 }
 
 // A bin of one context.
-pub fn decode(bytes: &[u8], count: usize, x: State, c: Context) -> Result<Decoded<Context>, Refusal>
-    ensures { decoded_says result ≡ decode_of bytes.now count x c }
+pub fn decode(bits: Payload<'_>, x: State, c: Context) -> Result<Decoded<Context>, Refusal>
+    ensures { decoded_says result ≡ decode_of bits.entry.bytes.now bits.entry.count x c }
 {
-    bin_by(bytes, count, x, c)
+    bin_by(bits, x, c)
 }
 
 // A bin of two contexts. Both are updated.
 pub fn decode_pair(
-    bytes: &[u8],
-    count: usize,
+    bits: Payload<'_>,
     x: State,
     a: Context,
     b: Context,
 ) -> Result<Decoded<Pair>, Refusal>
-    ensures { decoded_pair_says result ≡ decode_pair_of bytes.now count x a b }
+    ensures { decoded_pair_says result ≡ decode_pair_of bits.entry.bytes.now bits.entry.count x a b }
 {
     bin_by(
-        bytes,
-        count,
+        bits,
         x,
         Pair {
             first: a,

@@ -3,6 +3,7 @@
 #![tactic(auto)]
 
 use aec::{StartError, State};
+use bits::Payload;
 use contexts::Context;
 use payload::{Golomb, Removed, SignedGolomb};
 use std::io;
@@ -116,7 +117,7 @@ fn bins(rt: &impl Print, bytes: &[u8], x: State, n: u32) -> io::Result<()> {
     let mut y = x;
     let mut c = contexts::fresh();
     for _ in 0..n {
-        match aec::decode(bytes, 24, y, c) {
+        match aec::decode(Payload { bytes, count: 24 }, y, c) {
             Ok(done) => {
                 small(rt, done.bin)?;
                 y = done.state;
@@ -151,7 +152,7 @@ fn started(
 
 fn example_bins(rt: &impl Print, n: u32, bytes: &[u8], count: u32) -> io::Result<()> {
     example(rt, n)?;
-    started(rt, aec::start(bytes, 24), bytes, count)?;
+    started(rt, aec::start(Payload { bytes, count: 24 }), bytes, count)?;
     end(rt)
 }
 

@@ -12,11 +12,11 @@ use Rattle.aec.proofs.Guarded.slow.Goals.{After-misses}
 -- the range that is split is the definition's
 by_split : (c : After-misses) →
     let a = c.args in
-    let bits = payload a.self.limited.bytes.now a.self.limited.count in
+    let bits = payload a.self.limited.bits.bytes.now a.self.limited.bits.count in
     bin_of bits a.self.state a.g.p (of_split c.split-y.result) ≡ step_of bits a.self.state (of_prediction a.g)
 by_split c =
     let a = c.args in
-    step_is (payload a.self.limited.bytes.now a.self.limited.count) a.self.state (of_prediction a.g) _ c.split-y.ensures
+    step_is (payload a.self.limited.bits.bytes.now a.self.limited.bits.count) a.self.state (of_prediction a.g) _ c.split-y.ensures
 
 pub returns-then-misses : goal.returns-then-misses
 returns-then-misses c =
@@ -25,7 +25,7 @@ returns-then-misses c =
 pub returns-in_err-state : goal.returns-in_err-state
 returns-in_err-state c =
     let a = c.args in
-    let e = bin_stops (payload a.self.limited.bytes.now a.self.limited.count) a.self.state a.g.p (of_split c.split-y.result) _ (sym c.misses.ensures ∙ c.if-misses.true) c.in_err-state.ensures
+    let e = bin_stops (payload a.self.limited.bits.bytes.now a.self.limited.bits.count) a.self.state a.g.p (of_split c.split-y.result) _ (sym c.misses.ensures ∙ c.if-misses.true) c.in_err-state.ensures
     ∙ by_split (goal.at.returns-in_err-state c).After-misses in
     search rules
 
@@ -33,5 +33,5 @@ pub returns : goal.returns
 returns c =
     let a = c.args in
     ap (λ next. done (a.g.p, next)) c.predicted.ensures
-    ∙ bin_hit (payload a.self.limited.bytes.now a.self.limited.count) a.self.state a.g.p (of_split c.split-y.result) (sym c.misses.ensures ∙ c.if-misses.false)
+    ∙ bin_hit (payload a.self.limited.bits.bytes.now a.self.limited.bits.count) a.self.state a.g.p (of_split c.split-y.result) (sym c.misses.ensures ∙ c.if-misses.false)
     ∙ by_split (goal.at.returns c).After-misses

@@ -3,8 +3,8 @@ use native.Mathlib.Omega.{arith}
 use Rattle.bits.proofs.BitLaws.{length_payload}
 use Rattle.aec.proofs.Limited.bit_length.Goals as goal
 
-pub returns-then-self-all : goal.returns-then-self-all
-returns-then-self-all c = let a = c.args.self in omega (arith, length_payload a.bytes.now a.count)
-
-pub returns-else-self-all : goal.returns-else-self-all
-returns-else-self-all c = let a = c.args.self in omega (arith, length_payload a.bytes.now a.count)
+pub returns : goal.returns
+returns c =
+    let a = c.args.self.bits in
+    let e = c.min.ensures in
+    omega (arith, length_payload a.bytes.now a.count)

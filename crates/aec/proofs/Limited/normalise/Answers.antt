@@ -14,18 +14,18 @@ use Rattle.aec.proofs.Limited.normalise.Goals as goal
 use Rattle.aec.proofs.Limited.normalise.Goals.{At-loop-z, In_ok-more}
 
 abbrev bits : At-loop-z → List ℕ
-bits l = let a = l.args in payload a.self.bytes.now a.self.count
+bits l = let a = l.args in payload a.self.bits.bytes.now a.self.bits.count
 
 pub loop-z-init : goal.loop-z-init
 loop-z-init c = (search rules, search rules, search rules, refl)
 
-bound : (c : In_ok-more) → Taken (payload c.args.self.bytes.now c.args.self.count) c.loop-z.z.value c.loop-z.z.place c.in_ok-more.more.number c.in_ok-more.more.next
-bound c = let a = c.args in taken (payload a.self.bytes.now a.self.count) _ _ _ _ (all_payload a.self.bytes.now a.self.count) (sym c.in_ok-more.ensures)
+bound : (c : In_ok-more) → Taken (payload c.args.self.bits.bytes.now c.args.self.bits.count) c.loop-z.z.value c.loop-z.z.place c.in_ok-more.more.number c.in_ok-more.more.next
+bound c = let a = c.args in taken (payload a.self.bits.bytes.now a.self.bits.count) _ _ _ _ (all_payload a.self.bits.bytes.now a.self.bits.count) (sym c.in_ok-more.ensures)
 
 pub overflow_add-z : goal.overflow_add-z
 overflow_add-z c =
     let b = bound (goal.at.overflow_add-z c).In_ok-more in
-    omega (arith, payload_bound c.args.self.bytes.now c.args.self.count c.args.self.short)
+    omega (arith, payload_bound c.args.self.bits.bytes.now c.args.self.bits.count c.args.self.short)
 
 pub loop-z-smaller : goal.loop-z-smaller
 loop-z-smaller c = let b = bound (goal.at.loop-z-smaller c).In_ok-more in omega arith

@@ -17,9 +17,9 @@ counted n = n + 1
 
 abbrev pub invariant-loop-z : goal.invariant-loop-z
 invariant-loop-z l =
-    let bits = payload l.self.bytes.now l.self.count in
+    let bits = payload l.self.bits.bytes.now l.self.bits.count in
     (l.z.place ≤ length bits) × (l.z.beside ≤ l.z.place) × (l.z.value < 1048576)
     × (normalise_of bits l.value l.place ≡ shifts enough counted (drop l.z.place bits) l.z)
 
 abbrev pub decreases-loop-z : goal.decreases-loop-z
-decreases-loop-z l = length (payload l.self.bytes.now l.self.count) - l.z.place
+decreases-loop-z l = length (payload l.self.bits.bytes.now l.self.bits.count) - l.z.place

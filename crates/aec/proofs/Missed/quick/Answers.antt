@@ -11,12 +11,12 @@ use Rattle.aec.proofs.Missed.quick.Goals as goal
 pub overflow_add-result : goal.overflow_add-result
 overflow_add-result c =
     let a = c.args.self.at in
-    omega (arith, (state_ranges _ _ a.good).place, payload_bound a.limited.bytes.now a.limited.count a.limited.short)
+    omega (arith, (state_ranges _ _ a.good).place, payload_bound a.limited.bits.bytes.now a.limited.bits.count a.limited.short)
 
 pub returns-in-Done : goal.returns-in-Done
 returns-in-Done c =
     let a = c.args.self.at in
     let y = c.args.self.split in
     let told = sym c.renormalise.ensures ∙ c.in-Done.is in
-    bin_miss (payload a.limited.bytes.now a.limited.count) a.state c.args.g.p (of_split y) _ c.args.self.misses
-    (quick_state a.limited.bytes.now a.limited.count a.state (of_split y) c.in-Done.z (state_ranges _ _ a.good).vt y.t_fits y.range_some y.range_fits (rw c.head.ensures at told))
+    bin_miss (payload a.limited.bits.bytes.now a.limited.bits.count) a.state c.args.g.p (of_split y) _ c.args.self.misses
+    (quick_state a.limited.bits.bytes.now a.limited.bits.count a.state (of_split y) c.in-Done.z (state_ranges _ _ a.good).vt y.t_fits y.range_some y.range_fits (rw c.head.ensures at told))

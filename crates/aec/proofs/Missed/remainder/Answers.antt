@@ -29,8 +29,8 @@ pub take_bit-requires : goal.take_bit-requires
 take_bit-requires c = let r = state_ranges _ _ c.args.self.at.good in omega arith
 
 bound : (c : In_ok-more) → let a = c.args.self.at in
-    Taken (payload a.limited.bytes.now a.limited.count) a.state.vt a.state.place c.in_ok-more.more.number c.in_ok-more.more.next
-bound c = let a = c.args.self.at.limited in taken (payload a.bytes.now a.count) _ _ _ _ (all_payload a.bytes.now a.count) (sym c.in_ok-more.ensures)
+    Taken (payload a.limited.bits.bytes.now a.limited.bits.count) a.state.vt a.state.place c.in_ok-more.more.number c.in_ok-more.more.next
+bound c = let a = c.args.self.at.limited in taken (payload a.bits.bytes.now a.bits.count) _ _ _ _ (all_payload a.bits.bytes.now a.bits.count) (sym c.in_ok-more.ensures)
 
 pub overflow_add-result : goal.overflow_add-result
 overflow_add-result c =
@@ -42,11 +42,11 @@ pub returns-in_err-more : goal.returns-in_err-more
 returns-in_err-more c =
     let a = c.args.self in
     let e = stops (lessened (of_split a.split)) c.in_err-more.ensures
-    ∙ sym (remainder_past (payload a.at.limited.bytes.now a.at.limited.count) a.at.state (of_split a.split) c.if-y-x.false) in
+    ∙ sym (remainder_past (payload a.at.limited.bits.bytes.now a.at.limited.bits.count) a.at.state (of_split a.split) c.if-y-x.false) in
     search rules
 
 pub returns : goal.returns
 returns c =
     let a = c.args.self in
     goes (lessened (of_split a.split)) c.in_ok-more.ensures
-    ∙ sym (remainder_past (payload a.at.limited.bytes.now a.at.limited.count) a.at.state (of_split a.split) c.if-y-x.false)
+    ∙ sym (remainder_past (payload a.at.limited.bits.bytes.now a.at.limited.bits.count) a.at.state (of_split a.split) c.if-y-x.false)

@@ -21,7 +21,7 @@ use Rattle.aec.proofs.Missed.unpredicted.Goals.{Start, In_ok-v}
 
 module _ (s : Start) where
   abbrev bits : List ℕ
-  bits = let a = s.args.self.at.limited in payload a.bytes.now a.count
+  bits = let a = s.args.self.at.limited in payload a.bits.bytes.now a.bits.count
 
   -- the two steps before the value is settled
   abbrev widening : ℕ × ℕ → Outcome Shift
@@ -31,13 +31,13 @@ module _ (s : Start) where
   settling v z = settle_of bits (z.beside % 256) z.value z.place
 
 within : (c : In_ok-v) → let a = c.args.self.at in
-    (c.in_ok-v.v.number < 768) × (a.state.place ≤ c.in_ok-v.v.next) × (c.in_ok-v.v.next ≤ length (payload a.limited.bytes.now a.limited.count))
+    (c.in_ok-v.v.number < 768) × (a.state.place ≤ c.in_ok-v.v.next) × (c.in_ok-v.v.next ≤ length (payload a.limited.bits.bytes.now a.limited.bits.count))
 within c =
     let a = c.args.self.at in
-    let l = payload a.limited.bytes.now a.limited.count in
+    let l = payload a.limited.bits.bytes.now a.limited.bits.count in
     let r : StateRanges (length l) a.state = state_ranges _ _ a.good in
     let v = c.in_ok-v.v in
-    remainder_within l a.state (of_split c.args.self.split) (v.number, v.next) (all_payload a.limited.bytes.now a.limited.count) r.vt r.place (sym c.in_ok-v.ensures)
+    remainder_within l a.state (of_split c.args.self.split) (v.number, v.next) (all_payload a.limited.bits.bytes.now a.limited.bits.count) r.vt r.place (sym c.in_ok-v.ensures)
 
 pub returns-in_err-v : goal.returns-in_err-v
 unfolding unpredicted_of
@@ -67,7 +67,7 @@ settle-requires c =
     let y = c.args.self.split in
     let some = y.range_some in
     let w = within k in
-    let h = widened (payload a.bytes.now a.count) _ _ _ c.in_ok-z.z (all_payload a.bytes.now a.count) w.2 (omega arith) y.range_fits (sym c.in_ok-z.ensures) in
+    let h = widened (payload a.bits.bytes.now a.bits.count) _ _ _ c.in_ok-z.z (all_payload a.bits.bytes.now a.bits.count) w.2 (omega arith) y.range_fits (sym c.in_ok-z.ensures) in
     (h.3, omega arith)
 
 pub returns : goal.returns
