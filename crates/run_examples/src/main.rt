@@ -3,7 +3,7 @@
 #![tactic(auto)]
 
 use bodies::{HeaderAnswer, SequenceHeader};
-use filing::FilingAnswer;
+use filing::{Refusal, Totals};
 use grammar::Reason;
 use layout::Fault;
 use std::io;
@@ -86,13 +86,13 @@ fn bit(rt: &impl Print, why: Reason) -> io::Result<()> {
     }
 }
 
-fn answer(rt: &impl Print, a: FilingAnswer) -> io::Result<()> {
+fn answer(rt: &impl Print, a: Result<Totals, Refusal>) -> io::Result<()> {
     match a {
-        FilingAnswer::Filed(totals) => {
+        Ok(totals) => {
             number(rt, 0)?;
             size(rt, totals.units)
         }
-        FilingAnswer::Refused(refusal) => {
+        Err(refusal) => {
             let why = refusal.reason;
             small(rt, grammar::reason_number(why))?;
             size(rt, refusal.offset)?;

@@ -9,7 +9,7 @@ use bodies::{ExtensionAnswer, HeaderAnswer, Scope};
 use grammar::{Reason, SliceRule, State};
 use layout::Fault;
 use std::io;
-use units::UnitAnswer;
+use units::NextUnit;
 
 // ── what is written ──
 
@@ -137,11 +137,11 @@ fn refused(rt: &impl Print, why: Reason) -> io::Result<()> {
 }
 
 // Where the unit ends, its row's length and the state after it; or why it is refused, after "none".
-fn unit_answer(rt: &impl Print, a: UnitAnswer) -> io::Result<()> {
+fn unit_answer(rt: &impl Print, a: Option<Result<NextUnit, Reason>>) -> io::Result<()> {
     match a {
-        UnitAnswer::Next(x, end, length) => next(rt, x, end, length),
-        UnitAnswer::Refused(why) => refused(rt, why),
-        UnitAnswer::NoUnit => none(rt),
+        Some(Ok(unit)) => next(rt, unit.state, unit.end, unit.length),
+        Some(Err(why)) => refused(rt, why),
+        None => none(rt),
     }
 }
 
