@@ -32,7 +32,13 @@ fn at_start(kind: Kind, body: &[u8]) -> Result<State, Reason>
     }
 }
 
-fn in_head(rule: SliceRule, display: bool, kind: Kind, code: u8, body: &[u8]) -> Result<State, Reason>
+fn in_head(
+    rule: SliceRule,
+    display: bool,
+    kind: Kind,
+    code: u8,
+    body: &[u8],
+) -> Result<State, Reason>
     ensures { result ≡ choose kind (table (State.Head rule display) (record { code = code; body = body.now })) }
 {
     match kind {
@@ -54,7 +60,13 @@ fn in_picture(rule: SliceRule, kind: Kind, code: u8, body: &[u8]) -> Result<Stat
     }
 }
 
-fn after_slice(rule: SliceRule, least: u32, kind: Kind, code: u8, body: &[u8]) -> Result<State, Reason>
+fn after_slice(
+    rule: SliceRule,
+    least: u32,
+    kind: Kind,
+    code: u8,
+    body: &[u8],
+) -> Result<State, Reason>
     ensures { result ≡ choose kind (table (State.Slices rule least) (record { code = code; body = body.now })) }
 {
     match kind {
