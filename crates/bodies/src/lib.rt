@@ -12,7 +12,7 @@ ghost use Rattle.bodies.specs.Inside.{layout_by, record_by, result_by};
 ghost use Rattle.bodies.specs.Records.{header_record, plain_record, coloured_record, copyright_record};
 ghost use Rattle.bodies.specs.Answers.{value_number, fault_number, header_says, extension_gives, extension_says};
 
-use bits::{Bit, Read};
+use bits::{Payload, ReadError};
 use layout::{Fault, JudgedField, Layout, Verdict};
 
 #[derive(Clone, Copy)]
@@ -255,13 +255,13 @@ fn wide(x: u8) -> u32
 }
 
 // An extension's number, the upper half of its first byte; an empty body has none.
-fn number_of(body: &[u8]) -> Read
+fn number_of(body: &[u8]) -> Result<u32, ReadError>
     ensures { result ≡ read_says (number_of body.now) }
 {
     if body.len() == 0 {
-        return Read::Missing(4);
+        return Err(ReadError::Missing(4));
     }
-    Read::Value(wide(body[0]) / 16)
+    Ok(wide(body[0]) / 16)
 }
 
 // Whether an extension's number is 2: in a group's head it is a display extension.
@@ -269,9 +269,8 @@ pub fn is_display(body: &[u8]) -> bool
     ensures { result ≡ numbered 2 body.now }
 {
     match number_of(body) {
-        Read::Value(number) => number == 2,
-        Read::Missing(_) => false,
-        Read::TooWide => false, // never, here and below: four bits are read
+        Ok(number) => number == 2,
+        Err(_) => false,
     }
 }
 
@@ -280,12 +279,11 @@ pub fn is_opaque(body: &[u8], scope: Scope) -> bool
     ensures { result ≡ is_opaque scope body.now }
 {
     match number_of(body) {
-        Read::Value(number) => match scope {
+        Ok(number) => match scope {
             Scope::Head => number != 4 && number != 2,
             Scope::Picture => number != 4,
         },
-        Read::Missing(_) => true,
-        Read::TooWide => true,
+        Err(_) => true,
     }
 }
 
@@ -296,9 +294,13 @@ pub fn display_short(body: &[u8]) -> bool
     if body.len() < 6 {
         return true;
     }
-    match bits::read_bit(body, 9, 8) {
-        Bit::Is(given) => given == 1 && body.len() < 9,
-        Bit::Missing => false,
+    let first = Payload {
+        bytes: body,
+        count: 9,
+    };
+    match first.bit(8) {
+        Some(given) => given == 1 && body.len() < 9,
+        None => false,
     }
 }
 
@@ -309,15 +311,19 @@ fn display(body: &[u8]) -> ExtensionAnswer
     if display_short(body) {
         return ExtensionAnswer::Refused(Fault::Short);
     }
-    match bits::read_bit(body, 9, 8) {
-        Bit::Is(given) => {
+    let first = Payload {
+        bytes: body,
+        count: 9,
+    };
+    match first.bit(8) {
+        Some(given) => {
             if given == 1 {
                 read_by(Recorded::Coloured, body)
             } else {
                 read_by(Recorded::Plain, body)
             }
         }
-        Bit::Missing => ExtensionAnswer::Refused(Fault::Short),
+        None => ExtensionAnswer::Refused(Fault::Short),
     }
 }
 
@@ -345,8 +351,7 @@ pub fn extension(body: &[u8], scope: Scope) -> ExtensionAnswer
     ensures { extension_says result ≡ extension_of scope body.now }
 {
     match number_of(body) {
-        Read::Value(number) => by_number(number, body, scope),
-        Read::Missing(_) => ExtensionAnswer::Refused(Fault::Short),
-        Read::TooWide => ExtensionAnswer::Refused(Fault::Short),
+        Ok(number) => by_number(number, body, scope),
+        Err(_) => ExtensionAnswer::Refused(Fault::Short),
     }
 }

@@ -9,7 +9,7 @@ ghost use Rattle.layout.specs.Answers.{body_says};
 ghost use Rattle.layout.specs.Reader.{allows, ruled, stuffing, owned_by, cross, both, ended, reading};
 ghost use Rattle.layout.specs.Inside.{field_says, taken, taken_from};
 
-use bits::Read;
+use bits::Payload;
 
 // The fields of the layouts.
 #[derive(Clone, Copy)]
@@ -333,14 +333,16 @@ fn read_field(field: Field, body: &[u8], at: usize) -> FieldReading
 {
     let width = field.1;
     let rule = field.2;
-    let end = at + wide(width);
-    match bits::read_bits(body, end, at, width) {
-        Read::Value(value) => match ruled_on(rule, value, at) {
+    let before = Payload {
+        bytes: body,
+        count: at + wide(width),
+    };
+    match before.read(at, width) {
+        Ok(value) => match ruled_on(rule, value, at) {
             Verdict::Fine => FieldReading::Value(value),
             Verdict::Faulty(fault) => FieldReading::Faulty(fault),
         },
-        Read::Missing(_) => FieldReading::Faulty(Fault::Short),
-        Read::TooWide => FieldReading::Faulty(Fault::Short), // never: no field is so wide
+        Err(_) => FieldReading::Faulty(Fault::Short), // never too wide: no field is
     }
 }
 

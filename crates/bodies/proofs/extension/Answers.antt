@@ -3,7 +3,7 @@ use Rattle.std.proofs.Common.{Result, Ok, Err}
 use Prim.Native.Nat.{ℕ}
 use mathlib.Core.Path.{◌≡◌, sym, ap, ◌∙◌}
 use Rattle.bits.specs.Bits.{read_says}
-use Rattle.bits.proofs.BitLaws.{says_same, says_wide}
+use Rattle.bits.proofs.BitLaws.{says_same, says_err}
 use Rattle.layout.specs.Reader.{read_value}
 use Rattle.bodies.specs.Reader.{number_of, by_number, extension_result, extension_of}
 use Rattle.answers.specs.Results.{◌>>=◌}
@@ -18,14 +18,13 @@ module _ (c : After-number_of) where
       let a = c.args in
       ap (λ (x : Result ℕ ℕ). answer_of (read_value x >>= by_number a.scope a.body.now)) (says_same x (number_of a.body.now) (sym e ∙ c.number_of.ensures))
 
-pub returns-in-Value : goal.returns-in-Value
+pub returns-in-Ok : goal.returns-in-Ok
 unfolding extension_says
-returns-in-Value c =
-    ap answer_of c.by_number.ensures ∙ by_read (goal.at.returns-in-Value c).After-number_of (Ok c.in-Value.number) c.in-Value.is
+returns-in-Ok c =
+    ap answer_of c.by_number.ensures ∙ by_read (goal.at.returns-in-Ok c).After-number_of (Ok c.in-Ok.number) c.in-Ok.is
 
-pub returns-in-Missing : goal.returns-in-Missing
+pub returns-in-Err : goal.returns-in-Err
 unfolding extension_gives extension_says
-returns-in-Missing c = by_read (goal.at.returns-in-Missing c).After-number_of (Err c.in-Missing.field-0) c.in-Missing.is
-
-pub returns-in-TooWide : goal.returns-in-TooWide
-returns-in-TooWide c = says_wide (number_of c.args.body.now) (sym c.number_of.ensures ∙ c.in-TooWide.is)
+returns-in-Err c =
+    let (missing, _, e) = says_err (number_of c.args.body.now) c.in-Err.field-0 (sym c.number_of.ensures ∙ c.in-Err.is) in
+    by_read (goal.at.returns-in-Err c).After-number_of (Err missing) (c.in-Err.is ∙ ap Err e)
