@@ -30,6 +30,13 @@ pub struct Answer {
     pub bit: usize,
 }
 
+// Refusals that carry nothing.
+pub const FULL: u32 = 12;
+
+const TOO_LONG: u32 = 13;
+
+pub const NO_ROW: u32 = 16;
+
 // In place of a bit that is not there.
 const NO_BIT: usize = usize::MAX;
 
@@ -156,8 +163,8 @@ pub fn remove_escapes(raw: &[u8], output: &mut [u8]) -> Answer
 {
     match payload::remove_escapes(raw, output) {
         Removed::Done(bits) => handed(bits),
-        Removed::Full => refusal(12),
-        Removed::TooLong => refusal(13),
+        Removed::Full => refusal(FULL),
+        Removed::TooLong => refusal(TOO_LONG),
     }
 }
 
