@@ -17,7 +17,7 @@ ghost use Rattle.statuses.specs.Answers.{carried_bit, counted, filed_answer, par
 use filing::{Checked, FilingAnswer};
 use grammar::Reason;
 use layout::Fault;
-use payload::Removed;
+use payload::RemovalError;
 use startcode::{Kind, UnitKind};
 
 // What a call answers: a status, the offset of a stream's refusal, how many units, numbers or bits were handed over, and the bit place
@@ -156,9 +156,9 @@ pub fn remove_escapes(raw: &[u8], output: &mut [u8]) -> Answer
     ensures output { output.new ≡ output_after (removal raw.now (length output.old)) raw.now output.old }
 {
     match payload::remove_escapes(raw, output) {
-        Removed::Done(bits) => handed(bits),
-        Removed::Full => refusal(12),
-        Removed::TooLong => refusal(13),
+        Ok(bits) => handed(bits),
+        Err(RemovalError::Full) => refusal(12),
+        Err(RemovalError::TooLong) => refusal(13),
     }
 }
 
