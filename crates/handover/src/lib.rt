@@ -26,7 +26,7 @@ fn hand_both(values: &[u64], more: &[u64], numbers: &mut [u64]) -> Answer
     let n = values.len();
     let count = n + more.len();
     if numbers.len() < count {
-        return statuses::refusal(12);
+        return statuses::refusal(statuses::FULL);
     }
     numbers[..n].copy_from_slice(values);
     numbers[n..n + more.len()].copy_from_slice(more);
@@ -123,7 +123,7 @@ pub fn group(stream: &[u8], g: usize, numbers: &mut [u64]) -> Answer
 {
     match groups::group_at(stream, g) {
         GroupAnswer::Group(header, display) => hand_group(header, display, numbers),
-        GroupAnswer::NoRow => statuses::refusal(16),
+        GroupAnswer::NoRow => statuses::refusal(statuses::NO_ROW),
         GroupAnswer::Refused(why) => statuses::refused_stream(why),
     }
 }

@@ -31,6 +31,13 @@ pub struct Answer {
     pub bit: usize,
 }
 
+// Refusals that carry nothing.
+pub const FULL: u32 = 12;
+
+const TOO_LONG: u32 = 13;
+
+pub const NO_ROW: u32 = 16;
+
 // In place of a bit that is not there.
 const NO_BIT: usize = usize::MAX;
 
@@ -157,8 +164,8 @@ pub fn remove_escapes(raw: &[u8], output: &mut [u8]) -> Answer
 {
     match payload::remove_escapes(raw, output) {
         Ok(bits) => handed(bits),
-        Err(RemovalError::Full) => refusal(12),
-        Err(RemovalError::TooLong) => refusal(13),
+        Err(RemovalError::Full) => refusal(FULL),
+        Err(RemovalError::TooLong) => refusal(TOO_LONG),
     }
 }
 
