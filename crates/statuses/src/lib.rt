@@ -14,7 +14,6 @@ ghost use Rattle.rows.specs.Rows.{existing};
 ghost use Rattle.payload.specs.Escape.{removal, output_after};
 ghost use Rattle.statuses.specs.Answers.{carried_bit, counted, filed_answer, part_at, kind_number, kind_answer};
 
-use filing::{Checked, FilingAnswer};
 use grammar::Reason;
 use layout::Fault;
 use payload::RemovalError;
@@ -126,8 +125,8 @@ pub fn file(stream: &[u8], rows: &mut [u32]) -> Answer
     ensures words { rows.new ≡ words_after (filing_into stream.now (length rows.old)) rows.old }
 {
     match filing::file(stream, rows) {
-        FilingAnswer::Filed(totals) => handed(totals.units),
-        FilingAnswer::Refused(why) => refused_stream(why),
+        Ok(totals) => handed(totals.units),
+        Err(why) => refused_stream(why),
     }
 }
 
@@ -136,8 +135,8 @@ pub fn check(stream: &[u8]) -> Answer
     ensures { result ≡ counted (said length (walk stream.now)) }
 {
     match filing::check(stream) {
-        Checked::Good(units) => handed(units),
-        Checked::Refused(why) => refused_stream(why),
+        Ok(units) => handed(units),
+        Err(why) => refused_stream(why),
     }
 }
 
