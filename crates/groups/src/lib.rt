@@ -11,7 +11,7 @@ ghost use Rattle.groups.specs.Reader.{shown, in_head, display_in, group_of, grou
 ghost use Rattle.groups.specs.Inside.{Tells, units_from, Here};
 
 use bodies::{DisplayExtension, ExtensionAnswer, HeaderAnswer, Scope, SequenceHeader};
-use filing::{Checked, Refusal};
+use filing::Refusal;
 use startcode::{Kind, UnitKind};
 
 // The display extension of a group's head.
@@ -161,7 +161,7 @@ pub fn group_at(stream: &[u8], g: usize) -> GroupAnswer
     ensures { group_says result ≡ group_at stream.now g }
 {
     match filing::check(stream) {
-        Checked::Good(_) => group_number(stream, g),
-        Checked::Refused(refusal) => GroupAnswer::Refused(refusal),
+        Ok(_) => group_number(stream, g),
+        Err(refusal) => GroupAnswer::Refused(refusal),
     }
 }
