@@ -3,8 +3,9 @@
 #![tactic(auto)]
 
 use aec::{StartError, State};
+use bits::Payload;
 use contexts::Context;
-use payload::{Golomb, Removed, SignedGolomb};
+use payload::{GolombError, Numbered, RemovalError};
 use std::io;
 
 // ── what is written ──
@@ -51,11 +52,11 @@ fn example(rt: &impl Print, n: u32) -> io::Result<()> {
 
 // ── examples 8 and 9: payloads ──
 
-fn removed(rt: &impl Print, r: Removed) -> io::Result<()> {
+fn removed(rt: &impl Print, r: Result<usize, RemovalError>) -> io::Result<()> {
     match r {
-        Removed::Done(bits) => size(rt, bits),
-        Removed::Full => number(rt, 12),
-        Removed::TooLong => number(rt, 13),
+        Ok(bits) => size(rt, bits),
+        Err(RemovalError::Full) => number(rt, 12),
+        Err(RemovalError::TooLong) => number(rt, 13),
     }
 }
 
@@ -73,29 +74,37 @@ fn out(rt: &impl Print, missing: u32) -> io::Result<()> {
     small(rt, missing)
 }
 
-fn unsigned(rt: &impl Print, g: Golomb) -> io::Result<()> {
-    match g {
-        Golomb::Number(n, _) => small(rt, n),
-        Golomb::Value => number(rt, 8),
-        Golomb::TooLong => number(rt, 13),
-        Golomb::PayloadOut(missing) => out(rt, missing),
+fn refused(rt: &impl Print, why: GolombError) -> io::Result<()> {
+    match why {
+        GolombError::Value => number(rt, 8),
+        GolombError::TooLong => number(rt, 13),
+        GolombError::PayloadOut(missing) => out(rt, missing),
     }
 }
 
-fn with_sign(rt: &impl Print, g: SignedGolomb) -> io::Result<()> {
+fn unsigned(rt: &impl Print, g: Result<Numbered<u32>, GolombError>) -> io::Result<()> {
     match g {
-        SignedGolomb::Number(n, _) => signed(rt, n),
-        SignedGolomb::Value => number(rt, 8),
-        SignedGolomb::TooLong => number(rt, 13),
-        SignedGolomb::PayloadOut(missing) => out(rt, missing),
+        Ok(found) => small(rt, found.number),
+        Err(why) => refused(rt, why),
+    }
+}
+
+fn with_sign(rt: &impl Print, g: Result<Numbered<i32>, GolombError>) -> io::Result<()> {
+    match g {
+        Ok(found) => signed(rt, found.number),
+        Err(why) => refused(rt, why),
     }
 }
 
 fn example_golomb(rt: &impl Print, byte: u8, count: usize) -> io::Result<()> {
     let bytes = [byte];
     example(rt, 9)?;
-    unsigned(rt, payload::unsigned_golomb(&bytes, count, 0))?;
-    with_sign(rt, payload::signed_golomb(&bytes, count, 0))?;
+    let payload = Payload {
+        bytes: &bytes,
+        count,
+    };
+    unsigned(rt, payload::unsigned_golomb(&payload, 0))?;
+    with_sign(rt, payload::signed_golomb(&payload, 0))?;
     end(rt)
 }
 

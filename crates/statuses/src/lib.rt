@@ -16,7 +16,7 @@ ghost use Rattle.statuses.specs.Answers.{carried_bit, counted, filed_answer, par
 
 use grammar::Reason;
 use layout::Fault;
-use payload::Removed;
+use payload::RemovalError;
 use startcode::{Kind, UnitKind};
 
 // What a call answers: a status, the offset of a stream's refusal, how many units, numbers or bits were handed over, and the bit place
@@ -162,9 +162,9 @@ pub fn remove_escapes(raw: &[u8], output: &mut [u8]) -> Answer
     ensures output { output.new ≡ output_after (removal raw.now (length output.old)) raw.now output.old }
 {
     match payload::remove_escapes(raw, output) {
-        Removed::Done(bits) => handed(bits),
-        Removed::Full => refusal(FULL),
-        Removed::TooLong => refusal(TOO_LONG),
+        Ok(bits) => handed(bits),
+        Err(RemovalError::Full) => refusal(FULL),
+        Err(RemovalError::TooLong) => refusal(TOO_LONG),
     }
 }
 
