@@ -158,7 +158,7 @@ pub fn extension(body: &[u8], head: bool, numbers: &mut [u64]) -> Answer
     }
 }
 
-// The frame rate of a code, given or not given.
+// The frame rate of a code, given or not given. It and display_ratio are two: C has a name for each.
 pub fn frame_rate(code: u32, numbers: &mut [u64]) -> Answer
     ensures answer { result ≡ answered (done (ratio_numbers (frame_rate code))) numbers.old }
     ensures numbers { numbers.new ≡ after (done (ratio_numbers (frame_rate code))) numbers.old }
