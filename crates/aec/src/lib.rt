@@ -17,7 +17,6 @@ mod ranges;
 use bits::{Payload, ReadError};
 use contexts::Context;
 use ranges::{Prediction, Split};
-use renorm::Renormalised;
 
 // Document 01's rS, rT, valueS and valueT, and the place of the next bit.
 #[repr(C)]
@@ -383,26 +382,17 @@ impl Missed<'_> {
         let bits = self.at.limited.bits;
         let x = self.at.state;
         let y = self.split;
-        match renorm::renormalise(
-            bits.bytes,
-            bits.count,
-            x.place,
-            self.head(),
-            y.s != x.vs,
-            y.range,
-        ) {
-            Renormalised::Done(z) => Some(Stepped {
-                bin: 1 - g.p,
-                state: State {
-                    rs: 0,
-                    rt: z.rt,
-                    vs: z.vs,
-                    vt: z.vt,
-                    place: x.place + z.taken as usize,
-                },
-            }),
-            Renormalised::Short => None,
-        }
+        let z = renorm::renormalise(&bits, x.place, self.head(), y.s != x.vs, y.range)?;
+        Some(Stepped {
+            bin: 1 - g.p,
+            state: State {
+                rs: 0,
+                rt: z.rt,
+                vs: z.vs,
+                vt: z.vt,
+                place: x.place + z.taken as usize,
+            },
+        })
     }
 
     // The state after the bin, by single bits.
