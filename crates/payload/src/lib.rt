@@ -130,9 +130,9 @@ fn copy_bits(raw: &[u8], out: &mut [u8]) -> Packer
         k: 0,
     };
     let mut zeros: usize = 0;
-    for byte in raw {
-        packer = packer.push_kept(out, *byte, zeros);
-        zeros = zeros_after(zeros, *byte);
+    for &byte in raw {
+        packer = packer.push_kept(out, byte, zeros);
+        zeros = zeros_after(zeros, byte);
     }
     packer
 }
