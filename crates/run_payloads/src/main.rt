@@ -4,6 +4,7 @@
 
 use aec::{StartError, State};
 use contexts::Context;
+use rates::Rate;
 use payload::{Golomb, Removed, SignedGolomb};
 use std::io;
 
@@ -114,7 +115,7 @@ fn state(rt: &impl Print, x: State, c: Context) -> io::Result<()> {
 
 fn bins(rt: &impl Print, bytes: &[u8], x: State, n: u32) -> io::Result<()> {
     let mut y = x;
-    let mut c = contexts::fresh();
+    let mut c = Context::fresh();
     for _ in 0..n {
         match aec::decode(bytes, 24, y, c) {
             Ok(done) => {
@@ -160,9 +161,9 @@ fn example_bins(rt: &impl Print, n: u32, bytes: &[u8], count: u32) -> io::Result
 fn rate(rt: &impl Print, cycno: u32) -> io::Result<()> {
     say(rt, b"cycno")?;
     small(rt, cycno)?;
-    let r = rates::rate_by(cycno);
-    small(rt, rates::width(r))?;
-    small(rt, rates::gain(r))?;
+    let r = Rate::by(cycno);
+    small(rt, r.width())?;
+    small(rt, r.gain())?;
     small(rt, entries::next_lg(r, 1023))?;
     small(rt, entries::next_lg(r, 1024))?;
     small(rt, entries::next_lg(r, 0xFFFFFFFF))?;
