@@ -20,16 +20,13 @@ use Rattle.macroblocks.specs.Macroblocks.{macroblock_columns, macroblock_rows}
 use Rattle.grammar.specs.Rows.{words}
 use Rattle.grammar.specs.Reader.{filing}
 use Rattle.rows.specs.Rows.{row_exists, row_body}
+use Rattle.bodies.specs.declared.DisplayExtension.{DisplayExtension}
 use Rattle.groups.specs.Reader.{group_at}
-use Rattle.groups.specs.declared.Display.{Display}
-use Rattle.groups.specs.declared.Display.TheVariants as shown
 use Rattle.payload.specs.Golomb.{stands_for}
 use Rattle.payload.specs.Reader.{golomb}
 use Rattle.rates.specs.declared.Rate.{Rate}
 use Rattle.rates.specs.declared.Rate.TheVariants.{Three, Four, Five}
 use Rattle.entries.specs.Entries.{entry_of}
-use Rattle.entries.specs.declared.Entry.{Entry}
-use Rattle.entries.specs.declared.Entry.TheVariants.{Lg, NotGiven}
 use Rattle.contexts.specs.Contexts.{update_of}
 use Rattle.aec.specs.Bins.{start_of, pair_of, bypass_of, stuffing_of, decode_of, decode_pair_of}
 use Rattle.aec.specs.declared.State.{State}
@@ -268,9 +265,9 @@ abbrev pub part_of : List ℕ → List ℕ → ℕ → Outcome (List ℕ)
 part_of stream rows i = done (row_body stream rows i)
 
 -- the display extension's numbers, where it is given
-abbrev pub display_given : Display → List ℕ
-display_given (shown.Given d) = extension_numbers (display d)
-display_given shown.NotGiven = []
+abbrev pub display_given : Option DisplayExtension → List ℕ
+display_given (Some d) = extension_numbers (display d)
+display_given None = []
 
 -- header and display extension of group g
 abbrev pub group_is : List ℕ → ℕ → Outcome (List ℕ)
@@ -322,9 +319,9 @@ abbrev pub updated : Context → ℕ → Outcome (List ℕ)
 updated c bin = done (context_numbers (update_of c bin))
 
 -- the entry of a rate's table at an index, and no number where there is none
-abbrev pub entry_numbers : Entry → List ℕ
-entry_numbers (Lg lg) = lg ∷ []
-entry_numbers NotGiven = []
+abbrev pub entry_numbers : Option ℕ → List ℕ
+entry_numbers (Some lg) = lg ∷ []
+entry_numbers None = []
 
 abbrev pub entry : Rate → ℕ → Outcome (List ℕ)
 entry r k = done (entry_numbers (entry_of r k))
