@@ -1,16 +1,16 @@
 -- The bits that are read are the field's, and its rule judges their value.
-use Rattle.std.proofs.Common.{Ok}
+use Rattle.std.proofs.Common.{Ok, Err}
 use Prim.Native.Nat.{ℕ, ◌+◌, ◌≤◌}
 use mathlib.Core.Path.{◌≡◌, sym, ap, ◌∙◌}
 use mathlib.Core.List.{List}
+use borrow.Author.Rules.{rules}
 use Rattle.bits.specs.Bits.{bits_of, payload, read_at, read_within}
 use Rattle.bits.specs.declared.Read.{Read}
 use Rattle.bits.specs.declared.Read.TheVariants.{Value}
 use Rattle.bits.proofs.BitLaws.{within_value, within_missing, never_wide}
 use Rattle.layout.specs.Layouts.{width_of, rule_of}
-use Rattle.layout.specs.Reader.{◌>>◌, ruled}
+use Rattle.layout.specs.Reader.{Verdict, ◌>>◌, ruled}
 use Rattle.layout.specs.Inside.{taken}
-use Rattle.layout.specs.declared.Verdict.{Verdict}
 use Rattle.layout.proofs.ReadingLaws.{read_inside, taken_value, taken_fail}
 use Rattle.layout.proofs.read_field.Goals as goal
 use Rattle.layout.proofs.read_field.Goals.{After-read_bits}
@@ -26,31 +26,30 @@ module _ (c : After-read_bits) where
   narrow : width ≤ 32
   narrow = c.requires.1
 
-  read_is : (x : Read) → c.read_bits.result ≡ x → read_within before c.args.at width ≡ x
-  read_is x e = let a = c.args in sym (c.read_bits.ensures ∙ ap (λ (n : ℕ). read_within (payload a.body.now (a.at + n)) a.at width) c.wide.ensures) ∙ e
-
   inside : read_at before c.args.at width ≡ read_at (bits_of c.args.body.now) c.args.at width
   inside = read_inside (bits_of c.args.body.now) c.args.at width
 
--- a value that is read, and what is found of it
-judged : (c : After-read_bits) (v : ℕ) (found w : Verdict) → c.read_bits.result ≡ Value v → found ≡ ruled (rule_of c.args.field) v c.args.at → found ≡ w →
-    taken c.args.field c.args.at (bits_of c.args.body.now) ≡ (w >> Ok v)
-judged c v found w r first e =
-    let a = c.args in
-    taken_value a.field a.at v (bits_of a.body.now) (sym (inside c) ∙ within_value (before c) a.at (width c) (narrow c) v (read_is c _ r))
-    ∙ ap (λ (x : Verdict). x >> Ok v) (sym first ∙ e)
+  -- a value that is read is judged
+  judged : (v : ℕ) → c.read_bits.result ≡ Value v → taken c.args.field c.args.at (bits_of c.args.body.now) ≡ (ruled (rule_of c.args.field) v c.args.at >> Ok v)
+  judged v r = let a = c.args in taken_value a.field a.at v (bits_of a.body.now) (sym inside ∙ within_value before a.at width narrow v (sym c.read_bits.ensures ∙ r))
 
-pub returns-in-Fine : goal.returns-in-Fine
-returns-in-Fine c = sym (judged (goal.at.returns-in-Fine c).After-read_bits _ _ _ c.in-Value.is c.ruled_on.ensures c.in-Fine.is)
+pub returns-in_ok-ruled_on-in-Value : goal.returns-in_ok-ruled_on-in-Value
+returns-in_ok-ruled_on-in-Value c =
+    let e = judged (goal.at.returns-in_ok-ruled_on-in-Value c).After-read_bits _ c.in-Value.is in
+    sym (e ∙ ap (λ (v : Verdict). v >> Ok c.in-Value.value) (sym c.ruled_on.ensures ∙ c.in_ok-ruled_on-in-Value.was))
 
-pub returns-in-Faulty : goal.returns-in-Faulty
-returns-in-Faulty c = sym (judged (goal.at.returns-in-Faulty c).After-read_bits _ _ _ c.in-Value.is c.ruled_on.ensures c.in-Faulty.is)
+pub returns-in_err-ruled_on-in-Value : goal.returns-in_err-ruled_on-in-Value
+returns-in_err-ruled_on-in-Value c =
+    let e = judged (goal.at.returns-in_err-ruled_on-in-Value c).After-read_bits _ c.in-Value.is in
+    let r : c.from_residual.result ≡ Err c.in_err-ruled_on-in-Value.field-0.0 = search rules in
+    r ∙ sym (e ∙ ap (λ (v : Verdict). v >> Ok c.in-Value.value) (sym c.ruled_on.ensures ∙ c.in_err-ruled_on-in-Value.was))
 
 pub returns-in-Missing : goal.returns-in-Missing
 returns-in-Missing c =
     let a = c.args in
-    let m = within_missing (before (goal.at.returns-in-Missing c).After-read_bits) a.at (width (goal.at.returns-in-Missing c).After-read_bits) (narrow (goal.at.returns-in-Missing c).After-read_bits) _ (read_is (goal.at.returns-in-Missing c).After-read_bits _ c.in-Missing.is) in
-    sym (taken_fail a.field a.at _ (bits_of a.body.now) (sym (inside (goal.at.returns-in-Missing c).After-read_bits) ∙ m))
+    let at = (goal.at.returns-in-Missing c).After-read_bits in
+    let m = within_missing (before at) a.at (width at) (narrow at) _ (sym c.read_bits.ensures ∙ c.in-Missing.is) in
+    sym (taken_fail a.field a.at _ (bits_of a.body.now) (sym (inside at) ∙ m))
 
 pub returns-in-TooWide : goal.returns-in-TooWide
-returns-in-TooWide c = never_wide (before (goal.at.returns-in-TooWide c).After-read_bits) c.args.at (width (goal.at.returns-in-TooWide c).After-read_bits) (narrow (goal.at.returns-in-TooWide c).After-read_bits) (read_is (goal.at.returns-in-TooWide c).After-read_bits _ c.in-TooWide.is)
+returns-in-TooWide c = let at = (goal.at.returns-in-TooWide c).After-read_bits in never_wide (before at) c.args.at (width at) (narrow at) (sym c.read_bits.ensures ∙ c.in-TooWide.is)
