@@ -4,7 +4,7 @@ import re
 
 
 class Questions:
-    """The questions of crates/PROGRAM."""
+    """The questions of crates/PROGRAM: rows of its tables."""
 
     def __init__(self, program):
         self.source = pathlib.Path(f"crates/{program}/src/main.rt").read_text()
@@ -17,10 +17,11 @@ class Questions:
         found = re.search(rf"^const {name}: .*?= \[(.*?)\];", self.source, re.M | re.S)
         return [int(n) for n in found[1].replace(",", " ").split()]
 
-    def calls(self, name):
-        """The numbers of each call, in the order of the source."""
-        for found in re.finditer(rf"^    {name}\(&?rt, ([\dxA-F, ]+)\)(?:\?;)?$", self.source, re.M):
-            yield [int(n, 0) for n in found[1].split(",")]
+    def table(self, name):
+        """The rows of a table, in the order of the source."""
+        found = re.search(rf"^const {name}: .*?= \[\n(.*?)^\];", self.source, re.M | re.S)
+        for row in re.findall(r"^    \((.*)\),$", found[1], re.M):
+            yield [int(n, 0) for n in row.split(",")]
 
 
 def hexed(data):

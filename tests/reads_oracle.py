@@ -20,7 +20,7 @@ PREFIX = b"\0\0\1"
 
 
 def reads():
-    for lent, count, place, width in ASKED.calls("read"):
+    for lent, count, place, width in ASKED.table("READS"):
         data = ASKED.constant("HELD")[:lent]
         bits = bits_of(data)[:count]
         bit = bits[place] if place < len(bits) else "none"
@@ -35,7 +35,7 @@ def reads():
 
 
 def prefixes():
-    for at, in ASKED.calls("prefix"):
+    for at in ASKED.words("PREFIX_PLACES"):
         print("prefix", at, int(ASKED.constant("PREFIXES")[at:at + 3] == PREFIX))
 
 
@@ -43,7 +43,7 @@ def prefixes():
 
 
 def macroblocks():
-    for progressive, horizontal, vertical in ASKED.calls("macroblock"):
+    for progressive, horizontal, vertical in ASKED.table("PICTURES"):
         rows = (vertical + 15) // 16 if progressive else 2 * ((vertical + 31) // 32)
         print("macroblocks", progressive, horizontal, vertical, (horizontal + 15) // 16, rows, int(vertical <= 2800))
 
@@ -51,7 +51,7 @@ def macroblocks():
 def rows():
     words = ASKED.words("WORDS")
     held = list(zip(words[0::3], words[1::3], words[2::3]))
-    for lent, i in ASKED.calls("row"):
+    for lent, i in ASKED.table("ROWS"):
         stream = ASKED.constant("UNITS")[:lent]
         exists = i < len(held) and held[i][1] + 4 + held[i][2] <= len(stream)
         body = stream[held[i][1] + 4:][:held[i][2]] if exists else b""

@@ -24,7 +24,7 @@ use Rattle.answers.proofs.OutcomeLaws.{not_done, then_done}
 use Rattle.bits.proofs.TestLaws.{chosen}
 use Rattle.aec.proofs.RangeLaws.{StateRanges, payload_bound}
 use Rattle.aec.proofs.ShiftLaws.{normalised, widened}
-use Rattle.aec.proofs.PairLaws.{Predicts}
+use Rattle.aec.specs.Inside.{Predicts}
 use Rattle.aec.proofs.StepLaws.{limit_held, nine_bits, split_ranges, not_missed, remainder_within, bin_hit, bin_missed}
 
 -- ── good leads to good ──

@@ -4,6 +4,7 @@ pub mod ShiftLaws
 pub mod QuickLaws
 pub mod PairLaws
 pub mod StepLaws
+pub mod BinLaws
 pub mod StartLaws
 pub mod GoodLaws
 pub mod Theorems

@@ -1,19 +1,17 @@
--- The laws of the prediction of two contexts.
+-- The laws of a prediction by one context and by two.
 use Prim.Native.Nat.{◌+◌, ◌-◌, ◌/◌, ◌≤◌, ◌<◌}
 use mathlib.Core.Path.{◌≡◌}
+use mathlib.Core.Bool.{true}
 use native.Mathlib.Omega.{arith}
 use borrow.Author.Tests.{lt-ltb, le-ltb, eq-eqb, ne_eqb}
 use lib.Dec.{ltb, eqb}
-use Rattle.bits.proofs.TestLaws.{chosen}
+use Rattle.bits.proofs.TestLaws.{chosen, and_true}
 use Rattle.contexts.specs.declared.Context.{Context}
-use Rattle.contexts.proofs.ContextLaws.{ContextRanges}
+use Rattle.contexts.specs.Contexts.{good_context}
+use Rattle.contexts.proofs.ContextLaws.{ContextRanges, context_ranges}
 use Rattle.aec.specs.Bins.{pair_of}
-use Rattle.aec.specs.declared.Prediction.{Prediction}
-
-pub record Predicts (g : Prediction) : Type 0 where
-  pub bin : g.p ≤ 1
-  pub low : 4 ≤ g.lg
-  pub high : g.lg ≤ 1023
+use Rattle.aec.specs.Inside.{Predicts, own_prediction, good_pair, pair_prediction}
+use Rattle.aec.specs.declared.Pair.{Pair}
 
 pub pair_same : (a b : Context) → a.mps ≡ b.mps → record { p = a.mps; lg = (a.lg + b.lg) / 2 } ≡ pair_of a b
 unfolding pair_of
@@ -32,3 +30,10 @@ unfolding pair_of
 pair_predicts a b r s =
     chosen Predicts (eqb a.mps b.mps) _ _ (λ t. record { bin = r.mps; low = omega arith; high = omega arith })
     (λ t. chosen Predicts (ltb a.lg b.lg) _ _ (λ u. record { bin = r.mps; low = omega arith; high = omega arith }) (λ u. record { bin = s.mps; low = omega arith; high = omega arith }))
+
+-- contexts within their ranges predict within theirs
+pub own_within : (c : Context) → good_context c ≡ true → Predicts (own_prediction c)
+own_within c e = let r = context_ranges c e in record { bin = r.mps; low = r.low; high = r.high }
+
+pub pair_within : (c : Pair) → good_pair c ≡ true → Predicts (pair_prediction c)
+pair_within c e = let r = and_true _ _ e in pair_predicts _ _ (context_ranges _ r.0) (context_ranges _ r.1)

@@ -1,5 +1,5 @@
 -- The theorems of the front page, from the laws.
-use Rattle.std.proofs.Common.{Ok}
+use Rattle.std.proofs.Common.{Result, Ok, Err}
 use Prim.Native.Nat.{ℕ, ◌-◌, ◌%◌, ◌≤◌, ◌<◌}
 use mathlib.Core.Path.{◌≡◌, refl, sym, ap, subst, ◌∙◌}
 use mathlib.Core.Logic.{◌⊎◌, inl, inr, ◌↔◌}
@@ -20,26 +20,21 @@ use Rattle.bits.proofs.ReadLaws.{read_there}
 use Rattle.bits.proofs.LimitLaws.{of_bits, long_exactly, says_whole}
 use Rattle.contexts.specs.Contexts.{good_context, update_of}
 use Rattle.aec.specs.Bins.{good_state, within_limit, refused_first, no_bit, normalise_of, settle_of, start_of, step_of, pair_of, plain_of, decode_of, decode_pair_of}
-use Rattle.aec.specs.Says.{refusal_says, started_says, stepped_says, decoded_says, decoded_pair_says}
+use Rattle.aec.specs.Says.{refusal_says, started_says, of_step, of_bin, of_pair, stepped_says, decoded_says, decoded_pair_says}
 use Rattle.aec.specs.Claims.{Leads, Runs, runs_done, runs_out, Refuses, LacksStart, of_nine, only_zeros, few_after, SameBits}
 use Rattle.aec.specs.declared.State.{State}
 use Rattle.contexts.specs.declared.Context.{Context}
 use Rattle.aec.specs.declared.Prediction.{Prediction}
 use Rattle.aec.specs.declared.Shift.{Shift}
 use Rattle.aec.specs.declared.Refusal.TheVariants.{TooLong}
-use Rattle.aec.specs.declared.Started.{Started}
-use Rattle.aec.specs.declared.Started.TheVariants as started
-use Rattle.aec.specs.declared.Stepped.{Stepped}
-use Rattle.aec.specs.declared.Stepped.TheVariants as stepped
-use Rattle.aec.specs.declared.Decoded.{Decoded}
-use Rattle.aec.specs.declared.Decoded.TheVariants as decoded
-use Rattle.aec.specs.declared.DecodedPair.{DecodedPair}
-use Rattle.aec.specs.declared.DecodedPair.TheVariants as decoded-pair
-use Rattle.aec.proofs.AnswerLaws.{answer, answer_refused}
+use Rattle.aec.specs.declared.StartError.{StartError}
+use Rattle.aec.specs.declared.StartError.TheVariants as start
+use Rattle.aec.proofs.AnswerLaws.{answer, answer_refused, says_apart}
 use Rattle.answers.proofs.OutcomeLaws.{not_refused, other_number, carried_same, out_same, undone, goes, then_done}
 use Rattle.contexts.proofs.ContextLaws.{context_ranges, updated_good}
 use Rattle.aec.proofs.RangeLaws.{state_ranges, ranges_state}
-use Rattle.aec.proofs.PairLaws.{Predicts, pair_predicts}
+use Rattle.aec.specs.Inside.{Predicts}
+use Rattle.aec.proofs.PairLaws.{pair_predicts}
 use Rattle.aec.proofs.StepLaws.{limit_passed, limit_kept, first_long, first_bad, first_fine, first_held}
 use Rattle.aec.proofs.StartLaws.{lacks_one, lacks_after, ends_after}
 use Rattle.aec.proofs.GoodLaws.{step_good, start_ranges, runs_then, runs_step}
@@ -52,44 +47,23 @@ refusal_one_to_one {A} = undone (refusal_says {A = A}) (answer (λ _. TooLong) (
 pub started_one_to_one : OneToOne started_says
 started_one_to_one = undone started_says back is
   where
-    back : Outcome State → Started
-    back (done x) = started.Done x
-    back (refused n carried) = cond (eqb n TOO_LONG) started.TooLong (started.PayloadOut (missing_in carried))
+    back : Outcome State → Result State StartError
+    back (done x) = Ok x
+    back (refused n carried) = Err (cond (eqb n TOO_LONG) start.TooLong (start.PayloadOut (missing_in carried)))
 
-    is : (a : Started) → back (started_says a) ≡ a
-    is (started.Done x) = refl
-    is started.TooLong = refl
-    is (started.PayloadOut m) = refl
+    is : (a : Result State StartError) → back (started_says a) ≡ a
+    is (Ok x) = refl
+    is (Err start.TooLong) = refl
+    is (Err (start.PayloadOut m)) = refl
 
 pub stepped_one_to_one : OneToOne stepped_says
-stepped_one_to_one = undone stepped_says (answer value stepped.Refused) back
-  where
-    value : ℕ × State → Stepped
-    value v = stepped.Done v.0 v.1
-
-    back : (a : Stepped) → answer value stepped.Refused (stepped_says a) ≡ a
-    back (stepped.Done bin x) = refl
-    back (stepped.Refused r) = answer_refused value stepped.Refused r
+stepped_one_to_one = says_apart of_step (λ v. record { bin = v.0; state = v.1 }) (λ a. refl)
 
 pub decoded_one_to_one : OneToOne decoded_says
-decoded_one_to_one = undone decoded_says (answer value decoded.Refused) back
-  where
-    value : ℕ × State × Context → Decoded
-    value v = decoded.Done v.0 v.1 v.2
-
-    back : (a : Decoded) → answer value decoded.Refused (decoded_says a) ≡ a
-    back (decoded.Done bin x c) = refl
-    back (decoded.Refused r) = answer_refused value decoded.Refused r
+decoded_one_to_one = says_apart of_bin (λ v. record { bin = v.0; state = v.1; contexts = v.2 }) (λ a. refl)
 
 pub decoded_pair_one_to_one : OneToOne decoded_pair_says
-decoded_pair_one_to_one = undone decoded_pair_says (answer value decoded-pair.Refused) back
-  where
-    value : ℕ × State × Context × Context → DecodedPair
-    value v = decoded-pair.Done v.0 v.1 v.2 v.3
-
-    back : (a : DecodedPair) → answer value decoded-pair.Refused (decoded_pair_says a) ≡ a
-    back (decoded-pair.Done bin x a b) = refl
-    back (decoded-pair.Refused r) = answer_refused value decoded-pair.Refused r
+decoded_pair_one_to_one = says_apart of_pair (λ v. record { bin = v.0; state = v.1; contexts = record { first = v.2; second = v.3 } }) (λ a. refl)
 
 -- ── good leads to good ──
 

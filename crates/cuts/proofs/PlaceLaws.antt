@@ -1,4 +1,5 @@
 -- Where a reading may begin inside a stream that is read: at one of its groups, and nowhere else.
+use Rattle.std.proofs.Common.{Err}
 use Prim.Native.Nat.{ℕ, ◌≤◌}
 use mathlib.Core.Path.{◌≡◌, refl, sym, ◌∙◌, ap, subst}
 use mathlib.Core.Logic.{◌≢◌, ◌⊎◌, inl, inr}
@@ -22,7 +23,6 @@ use Rattle.grammar.specs.Grammar.{StreamUnit, bytes, IsKind, Alone, Group, Readi
 use Rattle.grammar.specs.Reader.{Cut, header_step, table, choose, by_kind, step, stop_at, walk_from, walk_of_any, walk}
 use Rattle.grammar.specs.Refusals.{HasCode, no_code}
 use Rattle.grammar.specs.declared.State.TheVariants.{Start}
-use Rattle.grammar.specs.declared.Step.TheVariants.{Stop as stop}
 use Rattle.grammar.specs.declared.Reason.{Reason}
 use Rattle.grammar.specs.declared.Reason.TheVariants as reason
 use Rattle.grammar.proofs.KindLaws.{apart, header_code}
@@ -144,11 +144,11 @@ none_read left (other_unit u us e a o) q k =
 
 -- ── how the walk stops there ──
 
-step_other : (u : StreamUnit) → OtherKind u → step Start u ≡ stop reason.OutOfPlace
+step_other : (u : StreamUnit) → OtherKind u → step Start u ≡ Err reason.OutOfPlace
 unfolding step
 step_other u o =
     ap (λ (k : Outcome Kind). by_kind k (λ j. choose j (table Start u))) o.1
-    ∙ ap (λ (t : Bool). cond t (header_step u.body) (stop reason.OutOfPlace)) o.2
+    ∙ ap (λ (t : Bool). cond t (header_step u.body) (Err reason.OutOfPlace)) o.2
 
 chunks_other : (u : StreamUnit) (cs : List (List ℕ)) → OtherKind u → walk_from (chunk u ∷ cs) Start 0 ≡ stop_at reason.OutOfPlace 0
 unfolding walk_from

@@ -1,7 +1,7 @@
 -- The rules of document 01, and of document 02 where it changes them, each at its limit and beside it: what the definitions answer,
 -- beside what the papers say. Bodies are written here by width and value, with none of the library's tables, and the numbers said
 -- are worked out from the papers alone: a rule changed in code and definition alike does not agree with them.
-use Rattle.std.specs.Prelude.{ℕ, zero, suc, ◌*◌, ◌+◌, ◌/◌, ◌%◌, ◌^◌, List, [], ◌∷◌, ◌++◌, map, cond, ℤ, pos, neg_ℤ, length, take, drop, replicate}
+use Rattle.std.specs.Prelude.{ℕ, zero, suc, Option, Some, None, ◌*◌, ◌+◌, ◌/◌, ◌%◌, ◌^◌, List, [], ◌∷◌, ◌++◌, map, cond, ℤ, pos, neg_ℤ, length, take, drop, replicate}
 use Rattle.answers.specs.Answers.{Outcome, done, refused, map_done, NO_CODE, CUT, OVERLAP, UNKNOWN, OUT_OF_PLACE, SHORT, MARKER, VALUE, STUFFING, TWICE, UNENDED, FULL, TOO_LONG, PAYLOAD_OUT, BAD_STATE, NO_ROW, VALUE_WIDTH, VALUE_HEIGHT, VALUE_CHROMA, VALUE_PRECISION, VALUE_ASPECT, VALUE_RATE, VALUE_TRANSFER, VALUE_MATRIX, VALUE_STEREO, VALUE_COPYRIGHT_OWNER, VALUE_COPYRIGHT_NUMBER, VALUE_SLICE_ORDER, VALUE_SLICE_ROW}
 use Rattle.answers.specs.Limits.{longest_stream, longest_payload, most_bits}
 use Rattle.answers.specs.Missing.{payload_out, missing_in}
@@ -14,9 +14,8 @@ use Rattle.bodies.specs.declared.SequenceHeader.{SequenceHeader}
 use Rattle.bodies.specs.declared.Colour.{Colour}
 use Rattle.bodies.specs.declared.Colour.TheVariants as colour
 use Rattle.bodies.specs.declared.Scope.TheVariants.{Head, Picture}
-use Rattle.ratios.specs.Ratios.{frame_rate, display_ratio}
-use Rattle.ratios.specs.declared.Ratio.{Ratio}
-use Rattle.ratios.specs.declared.Ratio.TheVariants as ratio
+use Rattle.ratios.specs.Ratios.{numerator, denominator, frame_rate, display_ratio}
+use Rattle.ratios.specs.declared.Fraction.{Fraction}
 use Rattle.macroblocks.specs.Macroblocks.{macroblock_columns, macroblock_rows}
 use Rattle.grammar.specs.Rows.{words}
 use Rattle.grammar.specs.Reader.{filing}
@@ -135,9 +134,9 @@ header_of_sizes progressive horizontal vertical = body 15 (changed 2 progressive
 abbrev pub macroblocks : ℕ → ℕ → ℕ → Outcome (List ℕ)
 macroblocks progressive horizontal vertical = map_done (λ h. macroblock_columns h ∷ macroblock_rows h ∷ []) (header_of (header_of_sizes progressive horizontal vertical))
 
-abbrev pub fraction : Ratio → Outcome (List ℕ)
-fraction (ratio.Given numerator denominator) = done (numerator ∷ denominator ∷ [])
-fraction ratio.NotGiven = done []
+abbrev pub fraction : Option Fraction → Outcome (List ℕ)
+fraction (Some f) = done (numerator f ∷ denominator f ∷ [])
+fraction None = done []
 
 -- ── extensions ──
 

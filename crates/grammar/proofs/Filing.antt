@@ -18,9 +18,7 @@ use Rattle.startcode.specs.Prefix.{begins}
 use Rattle.grammar.specs.Lists.{concat_map}
 use Rattle.grammar.specs.Grammar.{StreamUnit, bytes, Group, Reading, picture_units, group_units, units, Reads}
 use Rattle.grammar.specs.Rows.{Row, Placed, placed, placed_picture, placed_group, placed_units, rows_from, rows}
-use Rattle.grammar.specs.Reader.{cut, scope_in, final, step, Walk, stop_at, add_unit, continue, walk_from, walk_of_any, walk, said, filing}
-use Rattle.grammar.specs.declared.Step.{Step}
-use Rattle.grammar.specs.declared.Step.TheVariants.{Go as go, Stop as stop}
+use Rattle.grammar.specs.Reader.{Step, cut, scope_in, final, step, Walk, stop_at, add_unit, continue, walk_from, walk_of_any, walk, said, filing}
 use Rattle.answers.specs.Limits.{longest_stream}
 use Rattle.grammar.specs.declared.State.{State}
 use Rattle.grammar.specs.declared.State.TheVariants.{Start}
@@ -55,7 +53,7 @@ record Walked (q : State) (cs : List (List ℕ)) (ms : List Placed) : Type 0 whe
   chunks_are : cs ≡ map chunk (map unit_of ms)
   accepts : Accepts q ms
 
-more_walked : (q q' : State) (u : StreamUnit) (cs : List (List ℕ)) (ms ms' : List Placed) → step q u ≡ go q' → placed (scope_in q u) u ∷ ms' ≡ ms → Walked q' cs ms' → Walked q (chunk u ∷ cs) ms
+more_walked : (q q' : State) (u : StreamUnit) (cs : List (List ℕ)) (ms ms' : List Placed) → step q u ≡ Ok q' → placed (scope_in q u) u ∷ ms' ≡ ms → Walked q' cs ms' → Walked q (chunk u ∷ cs) ms
 more_walked q q' u cs ms ms' s e w = subst (Walked q (chunk u ∷ cs)) e
     (record { chunks_are = ap (λ (l : List (List ℕ)). chunk u ∷ l) w.chunks_are; accepts = (q', step_sound q u q' s, refl, w.accepts) })
 
@@ -76,8 +74,8 @@ walked_sound ((c ∷ b) ∷ cs) q at ms e = by_step (step q u) refl (λ q' ms'. 
 
     by_step : (s : Step) → step q u ≡ s → ((q' : State) (ms' : List Placed) → walk_from cs q' (at + length (bytes u)) ≡ Ok ms' → Walked q' cs ms')
         → continue s at (λ q'. add_unit (placed (scope_in q u) u) (walk_from cs q' (at + length (bytes u)))) ≡ Ok ms → Walked q ((c ∷ b) ∷ cs) ms
-    by_step (stop why) s ih e = not_ok e
-    by_step (go q') s ih e = let a = map_ok_lem (λ ms. placed (scope_in q u) u ∷ ms) (walk_from cs q' (at + length (bytes u))) ms e in more_walked q q' u cs ms a.0 s a.2 (ih q' a.0 a.1)
+    by_step (Err why) s ih e = not_ok e
+    by_step (Ok q') s ih e = let a = map_ok_lem (λ ms. placed (scope_in q u) u ∷ ms) (walk_from cs q' (at + length (bytes u))) ms e in more_walked q q' u cs ms a.0 s a.2 (ih q' a.0 a.1)
 
 walked_complete : (ms : List Placed) (q : State) (at : ℕ) → Accepts q ms → walk_from (map chunk (map unit_of ms)) q at ≡ Ok ms
 unfolding walk_from

@@ -20,9 +20,7 @@ use Rattle.grammar.specs.Lists.{concat_map}
 use Rattle.grammar.specs.Grammar.{StreamUnit, bytes, Alone, units}
 use Rattle.grammar.specs.Rows.{Placed, placed, placed_units, rows_from}
 use Rattle.grammar.specs.Reasons.{reason_number, carries, ByNumber}
-use Rattle.grammar.specs.Reader.{cut, final, step, scope_in, Stopped, Walk, stop_at, add_unit, continue, walk_from, walk_of_any, walk, said, filing, within, walk_into, filing_into}
-use Rattle.grammar.specs.declared.Step.{Step}
-use Rattle.grammar.specs.declared.Step.TheVariants.{Go as go, Stop as stop}
+use Rattle.grammar.specs.Reader.{Step, cut, final, step, scope_in, Stopped, Walk, stop_at, add_unit, continue, walk_from, walk_of_any, walk, said, filing, within, walk_into, filing_into}
 use Rattle.grammar.specs.Refusals.{HasCode, Stops, unended, cut as cut_short, overlap, breaks, StopsAt, Refuses, too_long, no_code, in_unit, RefusesInto, refuses as refuses-filing, full}
 use Rattle.grammar.specs.declared.State.{State}
 use Rattle.grammar.specs.declared.State.TheVariants.{Start}
@@ -46,7 +44,7 @@ data StopsNow (q : State) (cs : List (List ℕ)) (why : Reason) : Type 0 where
   no_chunk : cs ≡ [] → final q ≡ false → why ≡ reason.Unended → StopsNow q cs why
   last_empty : cs ≡ [] ∷ [] → why ≡ reason.Cut → StopsNow q cs why
   empty : (c : List ℕ) (rest : List (List ℕ)) → cs ≡ [] ∷ c ∷ rest → why ≡ reason.Overlap → StopsNow q cs why
-  at_unit : (u : StreamUnit) (rest : List (List ℕ)) → cs ≡ chunk u ∷ rest → step q u ≡ stop why → StopsNow q cs why
+  at_unit : (u : StreamUnit) (rest : List (List ℕ)) → cs ≡ chunk u ∷ rest → step q u ≡ Err why → StopsNow q cs why
 
 -- the walk goes over the units us, and stops at what follows
 record Stuck (all : List (List ℕ)) (s : Stopped) : Type 0 where
@@ -86,8 +84,8 @@ module _ (all : List (List ℕ)) (s : Stopped) where
       by_step : (x : Step) → step q u ≡ x
           → ((q' : State) → At (us ++ u ∷ []) q' → all ≡ map chunk (us ++ u ∷ []) ++ cs → at + length (bytes u) ≡ length (concat_map bytes (us ++ u ∷ [])) → walk_from cs q' (at + length (bytes u)) ≡ Err s → Stuck all s)
           → continue x at (λ q'. add_unit (placed (scope_in q u) u) (walk_from cs q' (at + length (bytes u)))) ≡ Err s → Stuck all s
-      by_step (stop why) x ih e = let (w, l) = stopped_as why at s e in record { us = us; state = q; rest = chunk u ∷ cs; is = i; at = a; now = at_unit u cs refl (x ∙ ap stop (sym w)); offset = l ∙ p }
-      by_step (go q') x ih e = ih q' (more a (step_sound q u q' x)) (i ∙ sym (chunks_more us u cs)) (ap (λ (k : ℕ). k + length (bytes u)) p ∙ sym (offset_more us u))
+      by_step (Err why) x ih e = let (w, l) = stopped_as why at s e in record { us = us; state = q; rest = chunk u ∷ cs; is = i; at = a; now = at_unit u cs refl (x ∙ ap Err (sym w)); offset = l ∙ p }
+      by_step (Ok q') x ih e = ih q' (more a (step_sound q u q' x)) (i ∙ sym (chunks_more us u cs)) (ap (λ (k : ℕ). k + length (bytes u)) p ∙ sym (offset_more us u))
           (map_err (λ ms. placed (scope_in q u) u ∷ ms) (walk_from cs q' (at + length (bytes u))) s e)
 
 stops_now : (q : State) (cs : List (List ℕ)) (why : Reason) (at : ℕ) → StopsNow q cs why → walk_from cs q at ≡ stop_at why at

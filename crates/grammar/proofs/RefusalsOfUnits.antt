@@ -29,9 +29,7 @@ use Rattle.bodies.specs.declared.SequenceHeader.{SequenceHeader}
 use Rattle.bodies.proofs.BreakLaws.{short_iff, long_iff, header_bad, display_bad, extension_bad}
 use Rattle.grammar.specs.Lists.{AtMostOne}
 use Rattle.grammar.specs.Grammar.{StreamUnit, IsKind, Alone, Nonzero, DisplayUnit, slice_rule}
-use Rattle.grammar.specs.Reader.{guard, by, same_kind, choose, header_step, head_extension, picture_extension, picture_step, slice_step, ending_step, table, step}
-use Rattle.grammar.specs.declared.Step.{Step}
-use Rattle.grammar.specs.declared.Step.TheVariants.{Go as go, Stop as stop}
+use Rattle.grammar.specs.Reader.{Step, guard, by, same_kind, choose, header_step, head_extension, picture_extension, picture_step, slice_step, ending_step, table, step}
 use Rattle.grammar.specs.Refusals.{BeginsSentence, InHead, AfterPicture, InGroup, OfBody, NoNonzero, NotEmpty, NotGreater, OutOfOrder, order, row, BadSlice, BadHeadExtension, short, twice, fields, other, BreaksBody, Breaks, unknown, out_of_place, in_place}
 use Rattle.grammar.specs.declared.SliceRule.{SliceRule}
 use Rattle.grammar.specs.declared.State.{State}
@@ -47,15 +45,12 @@ use Rattle.grammar.proofs.ShapeLaws.{kinds_in, Has, has_in_place, left_goes, in_
 
 -- ── one rule at a time ──
 
-not_stop : {P : Type 0} {q : State} {why : Reason} → go q ≡ stop why → P
-not_stop e = let z : ◌≡◌ {A = ℕ} 0 1 = cc in absurd (omega arith)
-
-same_stop : (m n : Reason) → (stop m ≡ stop n) ↔ (n ≡ m)
+same_stop : (m n : Reason) → (◌≡◌ {A = Step} (Err m) (Err n)) ↔ (n ≡ m)
 same_stop m n = ((λ e. cc), λ e. cc)
 
 -- a body that is refused by its result, where what the result refuses is stated
-by_iff : {A : Type 0} (r : Result A Fault) (next : A → State) (Broken : Fault → Type 0) → ((f : Fault) → (r ≡ Err f) ↔ Broken f) → (why : Reason) → (by r next ≡ stop why) ↔ OfBody Broken why
-by_iff (Ok a) next Broken iff why = (not_stop, λ b. not_err ((iff b.0).1 b.1))
+by_iff : {A : Type 0} (r : Result A Fault) (next : A → State) (Broken : Fault → Type 0) → ((f : Fault) → (r ≡ Err f) ↔ Broken f) → (why : Reason) → (by r next ≡ Err why) ↔ OfBody Broken why
+by_iff (Ok a) next Broken iff why = (not_err, λ b. not_err ((iff b.0).1 b.1))
 by_iff (Err f) next Broken iff why = ((λ e. (f, (iff f).0 refl, cc)), λ b. let e = (iff b.0).1 b.1 in let m = b.2 in cc)
 
 zero_nonzero : (body : List ℕ) → all_zero body ≡ true → ¬ Nonzero body
@@ -64,14 +59,14 @@ zero_nonzero body t n = contrary (all_zero body) t (nonzero_false body n)
 nonzero_zero : (body : List ℕ) → ¬ Nonzero body → all_zero body ≡ true
 nonzero_zero body n = by_test (all_zero body) (λ t. t) (λ f. absurd (n (false_nonzero body f)))
 
-picture_iff : (rule : SliceRule) (body : List ℕ) (why : Reason) → (picture_step rule body ≡ stop why) ↔ NoNonzero body why
+picture_iff : (rule : SliceRule) (body : List ℕ) (why : Reason) → (picture_step rule body ≡ Err why) ↔ NoNonzero body why
 picture_iff rule body why = (
-  (λ e. by_test (all_zero body) (λ t. (zero_nonzero body t, (same_stop (reason.Body fault.Short) why).0 (rw t at e))) (λ f. not_stop (rw f at e))),
+  (λ e. by_test (all_zero body) (λ t. (zero_nonzero body t, (same_stop (reason.Body fault.Short) why).0 (rw t at e))) (λ f. not_err (rw f at e))),
   λ k. rw (nonzero_zero body k.0) ((same_stop (reason.Body fault.Short) why).1 k.1),
 )
 
-ending_iff : (body : List ℕ) (next : State) (why : Reason) → (ending_step body next ≡ stop why) ↔ NotEmpty body why
-ending_iff [] next why = (not_stop, λ k. absurd (k.0 refl))
+ending_iff : (body : List ℕ) (next : State) (why : Reason) → (ending_step body next ≡ Err why) ↔ NotEmpty body why
+ending_iff [] next why = (not_err, λ k. absurd (k.0 refl))
 ending_iff (x ∷ body) next why = ((λ e. ((λ f. let z : ◌≡◌ {A = ℕ} 0 1 = cc in absurd (omega arith)), (same_stop (reason.Body fault.Stuffing) why).0 e)), λ k. (same_stop (reason.Body fault.Stuffing) why).1 k.1)
 
 -- ── slices ──
@@ -94,7 +89,7 @@ module _ (us : List StreamUnit) (rule : SliceRule) (least : ℕ) (ruled : Ruled 
     breaks = subst (λ (r : SliceRule). OutOfOrder us u r.rows why) ruled.is b;
   }
 
-  slice_stops : slice_step rule least u ≡ stop why → NoNonzero u.body why ⊎ BadSlice us u why
+  slice_stops : slice_step rule least u ≡ Err why → NoNonzero u.body why ⊎ BadSlice us u why
   slice_stops e =
       by_test (all_zero u.body)
       (λ z. inl (zero_nonzero u.body z, (same_stop (reason.Body fault.Short) why).0 (rw z at e)))
@@ -104,12 +99,12 @@ module _ (us : List StreamUnit) (rule : SliceRule) (least : ℕ) (ruled : Ruled 
       (λ f.
       by_test (rule.tested && leb rule.rows u.code)
       (λ t. let a = and_true _ _ t in inr (bad_slice (false_nonzero u.body nz) a.0 (row (in_order a.0 f) (leb-true _ _ a.1) ((same_stop reason.SliceRow why).0 (rw (nz, f, t) at e)))))
-      (λ g. not_stop (rw (nz, f, g) at e))))
+      (λ g. not_err (rw (nz, f, g) at e))))
     where
       in_order : rule.tested ≡ true → rule.tested && ltb u.code least ≡ false → ¬ NotGreater us u
       in_order t f g = contrary (ltb u.code least) (lt-ltb u.code least ((bound u).0 g)) (rw t at f)
 
-  stops_slice : NoNonzero u.body why ⊎ BadSlice us u why → slice_step rule least u ≡ stop why
+  stops_slice : NoNonzero u.body why ⊎ BadSlice us u why → slice_step rule least u ≡ Err why
   stops_slice (inl k) = rw (nonzero_zero u.body k.0) ((same_stop (reason.Body fault.Short) why).1 k.1)
   stops_slice (inr b) =
       let h : b.header ≡ ruled.header = same_header b.group ruled.group in
@@ -120,11 +115,11 @@ module _ (us : List StreamUnit) (rule : SliceRule) (least : ℕ) (ruled : Ruled 
       below : NotGreater us u → ltb u.code least ≡ true
       below g = lt-ltb u.code least ((bound u).0 g)
 
-      by_order : (s : Step) → OutOfOrder us u rule.rows why → guard ((ltb u.code least, reason.SliceOrder) ∷ (leb rule.rows u.code, reason.SliceRow) ∷ []) s ≡ stop why
+      by_order : (s : Step) → OutOfOrder us u rule.rows why → guard ((ltb u.code least, reason.SliceOrder) ∷ (leb rule.rows u.code, reason.SliceRow) ∷ []) s ≡ Err why
       by_order s (order g w) = rw (below g) ((same_stop reason.SliceOrder why).1 w)
       by_order s (row n l w) = rw (by_test (ltb u.code least) (λ t. absurd (n ((bound u).1 (ltb-true _ _ t)))) (λ f. f), le-leb rule.rows u.code l) ((same_stop reason.SliceRow why).1 w)
 
-  slice_iff : (slice_step rule least u ≡ stop why) ↔ BreaksBody kind.Slice us u why
+  slice_iff : (slice_step rule least u ≡ Err why) ↔ BreaksBody kind.Slice us u why
   slice_iff = (slice_stops, stops_slice)
 
 -- ── extensions ──
@@ -135,7 +130,7 @@ not_both {us = us} h p =
     let c : kind_of p.0.code ≡ done kind.SequenceHeader = ap (λ (u : StreamUnit). kind_of u.code) (sym e) ∙ h.2 in
     elim p.3 [ inl i ↦ apart kind.IPicture kind.SequenceHeader refl i c | inr b ↦ apart kind.PBPicture kind.SequenceHeader refl b c ]
 
-picture_extension_iff : (us : List StreamUnit) (rule : SliceRule) → AfterPicture us → (u : StreamUnit) (why : Reason) → (picture_extension rule u.body ≡ stop why) ↔ BreaksBody kind.Extension us u why
+picture_extension_iff : (us : List StreamUnit) (rule : SliceRule) → AfterPicture us → (u : StreamUnit) (why : Reason) → (picture_extension rule u.body ≡ Err why) ↔ BreaksBody kind.Extension us u why
 picture_extension_iff us rule a u why = let k = by_iff (extension_result scope.Picture u.body) (λ x. InPicture rule) (BreaksExtension scope.Picture u.body) (extension_bad scope.Picture u.body) why in
     ((λ e. inr (a, k.0 e)), λ b. elim b [ inl h ↦ not_both h.1 a | inr f ↦ k.1 f.1 ])
 
@@ -155,13 +150,13 @@ module _ (rule : SliceRule) (d : Bool) (extras : List StreamUnit) (shown : (d �
     λ f. r.1 (λ s. contrary d (shown.1 s) f),
   )
 
-  shown_iff : (by (display_of u.body) (λ x. Head rule true) ≡ stop why) ↔ OfBody (BreaksDisplay u.body) why
+  shown_iff : (by (display_of u.body) (λ x. Head rule true) ≡ Err why) ↔ OfBody (BreaksDisplay u.body) why
   shown_iff = by_iff (display_of u.body) (λ x. Head rule true) (BreaksDisplay u.body) (display_bad u.body) why
 
-  other_iff : (by (extension_result scope.Head u.body) (λ x. Head rule d) ≡ stop why) ↔ OfBody (BreaksExtension scope.Head u.body) why
+  other_iff : (by (extension_result scope.Head u.body) (λ x. Head rule d) ≡ Err why) ↔ OfBody (BreaksExtension scope.Head u.body) why
   other_iff = by_iff (extension_result scope.Head u.body) (λ x. Head rule d) (BreaksExtension scope.Head u.body) (extension_bad scope.Head u.body) why
 
-  head_stops : head_extension rule d u.body ≡ stop why → BadHeadExtension extras u why
+  head_stops : head_extension rule d u.body ≡ Err why → BadHeadExtension extras u why
   head_stops e =
       by_test (numbered 2 u.body)
       (λ t.
@@ -174,13 +169,13 @@ module _ (rule : SliceRule) (d : Bool) (extras : List StreamUnit) (shown : (d �
       (λ f. fields two ((long_iff u.body).0 l) ((first two).1 f) (shown_iff.0 (rw (t, l, f) at e)))))
       (λ f. other ((number_not_two u.body).0 f) (other_iff.0 (rw f at e)))
 
-  stops_head : BadHeadExtension extras u why → head_extension rule d u.body ≡ stop why
+  stops_head : BadHeadExtension extras u why → head_extension rule d u.body ≡ Err why
   stops_head (short two s e) = rw ((number_two u.body).1 two, (short_iff u.body).1 s) ((same_stop (reason.Body fault.Short) why).1 e)
   stops_head (twice two l o e) = by_test d (λ t. rw ((number_two u.body).1 two, (long_iff u.body).1 l, t) ((same_stop reason.Twice why).1 e)) (λ f. absurd (o ((first two).1 f)))
   stops_head (fields two l o k) = rw ((number_two u.body).1 two, (long_iff u.body).1 l, (first two).0 o) (shown_iff.1 k)
   stops_head (other two k) = rw ((number_not_two u.body).1 two) (other_iff.1 k)
 
-head_extension_iff : (us : List StreamUnit) (rule : SliceRule) (d : Bool) → HeadSays us d → (u : StreamUnit) → IsKind kind.Extension u → (why : Reason) → (head_extension rule d u.body ≡ stop why) ↔ BreaksBody kind.Extension us u why
+head_extension_iff : (us : List StreamUnit) (rule : SliceRule) (d : Bool) → HeadSays us d → (u : StreamUnit) → IsKind kind.Extension u → (why : Reason) → (head_extension rule d u.body ≡ Err why) ↔ BreaksBody kind.Extension us u why
 head_extension_iff us rule d h u c why = (
   (λ e. inl (h.0, h.1, head_stops rule d h.0 h.2 u c why e)),
   λ b. elim b [
@@ -193,14 +188,14 @@ head_extension_iff us rule d h u c why = (
 
 -- an entry of the unit's kind stops exactly where a unit of that kind breaks a rule
 abbrev Entry : List StreamUnit → StreamUnit → Kind × Step → Type 0
-Entry us u e = IsKind e.0 u → (why : Reason) → (e.1 ≡ stop why) ↔ BreaksBody e.0 us u why
+Entry us u e = IsKind e.0 u → (why : Reason) → (e.1 ≡ Err why) ↔ BreaksBody e.0 us u why
 
 module _ (us : List StreamUnit) (u : StreamUnit) where
   header_entry : Entry us u (kind.SequenceHeader, header_step u.body)
   header_entry is = by_iff (header_result u.body) (λ header. Head (slice_rule header) false) (BreaksLayout Header u.body) (header_bad u.body)
 
-  user_entry : (q : State) → Entry us u (kind.UserData, go q)
-  user_entry q is why = (not_stop, λ b. absurd b)
+  user_entry : (q : State) → Entry us u (kind.UserData, Ok q)
+  user_entry q is why = (not_err, λ b. absurd b)
 
   slice_entry : (rule : SliceRule) (least : ℕ) → Ruled us rule → Least us least → Entry us u (kind.Slice, slice_step rule least u)
   slice_entry rule least r l is = slice_iff us rule least r l u
@@ -220,7 +215,7 @@ module _ (us : List StreamUnit) (u : StreamUnit) where
 
 module _ (us : List StreamUnit) (u : StreamUnit) (k : Kind) (is : IsKind k u) (why : Reason) where
   -- the table stops by the entry of the kind, or because it has none
-  chosen_stops : (l : List (Kind × Step)) → All (Entry us u) l → choose k l ≡ stop why → (Has k (kinds_in l) × BreaksBody k us u why) ⊎ ((¬ Has k (kinds_in l)) × (why ≡ reason.OutOfPlace))
+  chosen_stops : (l : List (Kind × Step)) → All (Entry us u) l → choose k l ≡ Err why → (Has k (kinds_in l) × BreaksBody k us u why) ⊎ ((¬ Has k (kinds_in l)) × (why ≡ reason.OutOfPlace))
   chosen_stops [] a e = inr ((λ h. h), (same_stop reason.OutOfPlace why).0 e)
   chosen_stops (x ∷ l) a e =
       by_test (same_kind k x.0)
@@ -232,11 +227,11 @@ module _ (us : List StreamUnit) (u : StreamUnit) (k : Kind) (is : IsKind k u) (w
         | inr n ↦ inr ((λ h. elim h [ inl i ↦ contrary (same_kind k x.0) (true_same k x.0 i) f | inr h ↦ n.0 h ]), n.1)
       ])
 
-  none_stops : (l : List (Kind × Step)) → ¬ Has k (kinds_in l) → choose k l ≡ stop reason.OutOfPlace
+  none_stops : (l : List (Kind × Step)) → ¬ Has k (kinds_in l) → choose k l ≡ Err reason.OutOfPlace
   none_stops [] n = refl
   none_stops (x ∷ l) n = by_test (same_kind k x.0) (λ t. absurd (n (inl (same_true k x.0 t)))) (λ f. rw f (none_stops l (λ h. n (inr h))))
 
-  one_stops : (l : List (Kind × Step)) → All (Entry us u) l → Has k (kinds_in l) → BreaksBody k us u why → choose k l ≡ stop why
+  one_stops : (l : List (Kind × Step)) → All (Entry us u) l → Has k (kinds_in l) → BreaksBody k us u why → choose k l ≡ Err why
   one_stops [] a h b = elim h [ ]
   one_stops (x ∷ l) a h b =
       by_test (same_kind k x.0)
@@ -244,7 +239,7 @@ module _ (us : List StreamUnit) (u : StreamUnit) (k : Kind) (is : IsKind k u) (w
       (λ f. rw f (elim h [ inl i ↦ contrary (same_kind k x.0) (true_same k x.0 i) f | inr h ↦ one_stops l a.1 h b ]))
 
 module _ {us : List StreamUnit} {q : State} (at : At us q) (u : StreamUnit) (why : Reason) where
-  step_breaks : step q u ≡ stop why → Breaks us u why
+  step_breaks : step q u ≡ Err why → Breaks us u why
   unfolding step
   step_breaks e = elim (kind_or_not u.code) [
     | inr r ↦ unknown r ((same_stop reason.Unknown why).0 (rw r at e))
@@ -254,13 +249,13 @@ module _ {us : List StreamUnit} {q : State} (at : At us q) (u : StreamUnit) (why
     ]
   ]
 
-  breaks_step : Breaks us u why → step q u ≡ stop why
+  breaks_step : Breaks us u why → step q u ≡ Err why
   unfolding step
   breaks_step (unknown r e) = rw r ((same_stop reason.Unknown why).1 e)
   breaks_step (out_of_place k is p e) = rw is (none_stops us u k is why (table q u) (λ h. p (has_in_place at u k is h)) ∙ (same_stop reason.OutOfPlace why).1 e)
   breaks_step (in_place k is p b) = rw is (one_stops us u k is why (table q u) (entries us u q (says at)) (in_place_has at u k is p) b)
 
-pub step_iff : {us : List StreamUnit} {q : State} → At us q → (u : StreamUnit) (why : Reason) → (step q u ≡ stop why) ↔ Breaks us u why
+pub step_iff : {us : List StreamUnit} {q : State} → At us q → (u : StreamUnit) (why : Reason) → (step q u ≡ Err why) ↔ Breaks us u why
 step_iff at u why = (step_breaks at u why, breaks_step at u why)
 
 -- ── the first unit that breaks a rule ──
@@ -270,14 +265,14 @@ pub breaks_iff : (us : List StreamUnit) (u : StreamUnit) → BeginsSentence us �
 breaks_iff us u b k = let a = (begins_iff us).1 b in (
   (λ h s.
       let g = left_goes us u s.0 (sentence_left us (u ∷ s.0) (rw append_assoc at s.1)) in
-      not_stop (sym (step_complete g.2.1) ∙ breaks_step g.1 u h.0 h.1)),
+      not_err (sym (step_complete g.2.1) ∙ breaks_step g.1 u h.0 h.1)),
   λ n. by_step a.0.0 a.0.1 a.1 (step a.0.0 u) refl n,
 )
   where
     by_step : (q : State) → At us q → All Alone us → (s : Step) → step q u ≡ s → ¬ BeginsSentence (us ++ u ∷ []) → (why : Reason) × Breaks us u why
-    by_step q at l (stop why) e h = (why, step_breaks at u why e)
-    by_step q at l (go q') e h = absurd (h ((begins_iff (us ++ u ∷ [])).0 ((q', more at (step_sound q u q' e)), all_append Alone us (u ∷ []) l (k, tt))))
+    by_step q at l (Err why) e h = (why, step_breaks at u why e)
+    by_step q at l (Ok q') e h = absurd (h ((begins_iff (us ++ u ∷ [])).0 ((q', more at (step_sound q u q' e)), all_append Alone us (u ∷ []) l (k, tt))))
 
 -- and for one reason alone
 pub breaks_one : (us : List StreamUnit) (u : StreamUnit) (m n : Reason) → BeginsSentence us → Breaks us u m → Breaks us u n → m ≡ n
-breaks_one us u m n b x y = let a = (begins_iff us).1 b in let e : stop m ≡ stop n = sym (breaks_step a.0.1 u m x) ∙ breaks_step a.0.1 u n y in cc
+breaks_one us u m n b x y = let a = (begins_iff us).1 b in let e : Err m ≡ Err n = sym (breaks_step a.0.1 u m x) ∙ breaks_step a.0.1 u n y in cc

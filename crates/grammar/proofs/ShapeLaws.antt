@@ -1,4 +1,5 @@
 -- A unit is in place exactly where the state's table has its kind.
+use Rattle.std.proofs.Common.{Ok}
 use Prim.Native.Nat.{ℕ}
 use mathlib.Core.Path.{◌≡◌, refl, sym, ◌∙◌, ap, subst}
 use mathlib.Core.Logic.{inl, inr, ◌↔◌}
@@ -16,9 +17,7 @@ use Rattle.startcode.specs.declared.Kind.{Kind}
 use Rattle.startcode.specs.declared.Kind.TheVariants as kind
 use Rattle.bodies.specs.Extensions.{numbered, HasNumber}
 use Rattle.grammar.specs.Grammar.{StreamUnit, IsKind, Alone, Extension, slice_rule}
-use Rattle.grammar.specs.Reader.{cut, same_kind, choose, table, step, final}
-use Rattle.grammar.specs.declared.Step.{Step}
-use Rattle.grammar.specs.declared.Step.TheVariants.{Go as go}
+use Rattle.grammar.specs.Reader.{Step, cut, same_kind, choose, table, step, final}
 use Rattle.grammar.specs.Rows.{Placed}
 use Rattle.grammar.specs.Refusals.{IsSentence, kinds_of, InPlace}
 use Rattle.grammar.specs.declared.SliceRule.{SliceRule}
@@ -110,7 +109,7 @@ kinds_are (Slices rule n) u = refl
 kinds_are Ended u = refl
 kinds_are Closed u = refl
 
-choose_has : (k : Kind) (l : List (Kind × Step)) (q : State) → choose k l ≡ go q → Has k (kinds_in l)
+choose_has : (k : Kind) (l : List (Kind × Step)) (q : State) → choose k l ≡ Ok q → Has k (kinds_in l)
 choose_has k [] q e = let z : ◌≡◌ {A = ℕ} 0 1 = cc in absurd (omega arith)
 choose_has k (x ∷ l) q e = by_test (same_kind k x.0) (λ t. inl (same_true k x.0 t)) (λ f. inr (choose_has k l q (rw f at e)))
 

@@ -22,9 +22,7 @@ use Rattle.layout.specs.declared.Fault.TheVariants as fault
 use Rattle.bodies.specs.declared.Scope.TheVariants as scope
 use Rattle.bodies.specs.declared.SequenceHeader.{SequenceHeader}
 use Rattle.grammar.specs.Grammar.{StreamUnit, IsKind, Nonzero, Extension, IsHeader, IsDisplay, slice_rule}
-use Rattle.grammar.specs.Reader.{is_nil, guard, same_kind, choose, by_kind, by, header_step, display_step, head_extension, picture_extension, picture_step, slice_step, ending_step, table, step}
-use Rattle.grammar.specs.declared.Step.{Step}
-use Rattle.grammar.specs.declared.Step.TheVariants.{Go as go, Stop as stop}
+use Rattle.grammar.specs.Reader.{Step, is_nil, guard, same_kind, choose, by_kind, by, header_step, display_step, head_extension, picture_extension, picture_step, slice_step, ending_step, table, step}
 use Rattle.grammar.specs.declared.SliceRule.{SliceRule}
 use Rattle.grammar.specs.declared.State.{State}
 use Rattle.grammar.specs.declared.State.TheVariants.{Start, Head, Picture as InPicture, Slices, Ended, Closed}
@@ -37,7 +35,7 @@ use Rattle.grammar.proofs.Division.{number_two, number_not_two, Goes, sequence, 
 
 -- ── tests ──
 
-pub not_go : {P : Type 0} {why : Reason} {q : State} → stop why ≡ go q → P
+pub not_go : {P : Type 0} {why : Reason} {q : State} → Err why ≡ Ok q → P
 not_go e = let z : ◌≡◌ {A = ℕ} 0 1 = cc in absurd (omega arith)
 
 zero_true : (b : List ℕ) → all_zero b ≡ true → All (λ x. x ≡ 0) b
@@ -71,7 +69,7 @@ abbrev None : List (Bool × Reason) → Type 0
 None l = All (λ c. c.0 ≡ false) l
 
 -- a guard is passed exactly where no test holds
-passed : (l : List (Bool × Reason)) (s : Step) (q : State) → guard l s ≡ go q → None l × (s ≡ go q)
+passed : (l : List (Bool × Reason)) (s : Step) (q : State) → guard l s ≡ Ok q → None l × (s ≡ Ok q)
 passed [] s q e = (tt, e)
 passed (c ∷ l) s q e = by_test c.0 (λ t. not_go (rw t at e)) (λ f. let r = passed l s q (rw f at e) in ((f, r.0), r.1))
 
@@ -80,28 +78,28 @@ pass [] s h = refl
 pass (c ∷ l) s h = rw h.0 (pass l s h.1)
 
 -- reading a body goes on exactly where it succeeds
-by_go : {A : Type 0} (r : Result A Fault) (next : A → State) (q : State) → by r next ≡ go q → (a : A) × (r ≡ Ok a) × (next a ≡ q)
+by_go : {A : Type 0} (r : Result A Fault) (next : A → State) (q : State) → by r next ≡ Ok q → (a : A) × (r ≡ Ok a) × (next a ≡ q)
 by_go (Ok a) next q e = (a, refl, cc)
 by_go (Err fault) next q e = not_go e
 
-goes : {A : Type 0} (r : Result A Fault) (next : A → State) (a : A) → r ≡ Ok a → by r next ≡ go (next a)
+goes : {A : Type 0} (r : Result A Fault) (next : A → State) (a : A) → r ≡ Ok a → by r next ≡ Ok (next a)
 goes r next a e = rw e
 
 -- the step choose_go
 abbrev Took : Kind → List (Kind × Step) → State → Type 0
-Took k l q = Some (λ c. (k ≡ c.0) × (c.1 ≡ go q)) l
+Took k l q = Some (λ c. (k ≡ c.0) × (c.1 ≡ Ok q)) l
 
-choose_go : (k : Kind) (l : List (Kind × Step)) (q : State) → choose k l ≡ go q → Took k l q
+choose_go : (k : Kind) (l : List (Kind × Step)) (q : State) → choose k l ≡ Ok q → Took k l q
 choose_go k [] q e = not_go e
 choose_go k (c ∷ l) q e = by_test (same_kind k c.0) (λ t. inl (same_true k c.0 t, rw t at e)) (λ f. inr (choose_go k l q (rw f at e)))
 
 -- ── steps and the grammar's rules ──
 
-header_step_lem : (body : List ℕ) (q : State) → header_step body ≡ go q → (header : SequenceHeader) × IsHeader body header × (Head (slice_rule header) false ≡ q)
+header_step_lem : (body : List ℕ) (q : State) → header_step body ≡ Ok q → (header : SequenceHeader) × IsHeader body header × (Head (slice_rule header) false ≡ q)
 header_step_lem body q e = let r = by_go (header_result body) _ q e in (r.0, (header_good body r.0).0 r.1, r.2)
 
-picture_step_lem : (rule : SliceRule) (body : List ℕ) (q : State) → picture_step rule body ≡ go q → Nonzero body × (InPicture rule ≡ q)
-picture_step_lem rule body q e = let r = passed ((all_zero body, _) ∷ []) (go (InPicture rule)) q e in (false_nonzero body r.0.0, cc r.1)
+picture_step_lem : (rule : SliceRule) (body : List ℕ) (q : State) → picture_step rule body ≡ Ok q → Nonzero body × (InPicture rule ≡ q)
+picture_step_lem rule body q e = let r = passed ((all_zero body, _) ∷ []) (Ok (InPicture rule)) q e in (false_nonzero body r.0.0, cc r.1)
 
 slice_tests : (rule : SliceRule) (least code : ℕ) →
     ((rule.tested && ltb code least ≡ false) × (rule.tested && leb rule.rows code ≡ false))
@@ -114,20 +112,20 @@ slice_tests rule least code = (
   ),
 )
 
-slice_step_lem : (rule : SliceRule) (least : ℕ) (u : StreamUnit) (q : State) → slice_step rule least u ≡ go q →
+slice_step_lem : (rule : SliceRule) (least : ℕ) (u : StreamUnit) (q : State) → slice_step rule least u ≡ Ok q →
     Nonzero u.body × (rule.tested ≡ true → (least ≤ u.code) × (u.code < rule.rows)) × (Slices rule (u.code + 1) ≡ q)
 slice_step_lem rule least u q e =
-    let r = passed ((all_zero u.body, _) ∷ (rule.tested && ltb u.code least, _) ∷ (rule.tested && leb rule.rows u.code, _) ∷ []) (go (Slices rule (u.code + 1))) q e in
+    let r = passed ((all_zero u.body, _) ∷ (rule.tested && ltb u.code least, _) ∷ (rule.tested && leb rule.rows u.code, _) ∷ []) (Ok (Slices rule (u.code + 1))) q e in
     (false_nonzero u.body r.0.0, (slice_tests rule least u.code).0 (r.0.1.0, r.0.1.1.0), cc r.1)
 
 step_slice : (rule : SliceRule) (least : ℕ) (u : StreamUnit) → Nonzero u.body → (rule.tested ≡ true → (least ≤ u.code) × (u.code < rule.rows)) →
-    slice_step rule least u ≡ go (Slices rule (u.code + 1))
+    slice_step rule least u ≡ Ok (Slices rule (u.code + 1))
 step_slice rule least u n o = let k = (slice_tests rule least u.code).1 o in
     pass ((all_zero u.body, reason.Body fault.Short) ∷ (rule.tested && ltb u.code least, reason.SliceOrder) ∷ (rule.tested && leb rule.rows u.code, reason.SliceRow) ∷ [])
-    (go (Slices rule (u.code + 1))) (nonzero_false u.body n, (k.0, (k.1, tt)))
+    (Ok (Slices rule (u.code + 1))) (nonzero_false u.body n, (k.0, (k.1, tt)))
 
-ending_step_lem : (body : List ℕ) (next q : State) → ending_step body next ≡ go q → (body ≡ []) × (next ≡ q)
-ending_step_lem body next q e = let r = passed ((not (is_nil body), _) ∷ []) (go next) q e in (nil_true body (not-false _ r.0.0), cc r.1)
+ending_step_lem : (body : List ℕ) (next q : State) → ending_step body next ≡ Ok q → (body ≡ []) × (next ≡ q)
+ending_step_lem body next q e = let r = passed ((not (is_nil body), _) ∷ []) (Ok next) q e in (nil_true body (not-false _ r.0.0), cc r.1)
 
 display_extension : (body : List ℕ) → HasNumber body 2 → Extension body
 display_extension body n = record {
@@ -136,22 +134,22 @@ display_extension body n = record {
 }
 
 -- a unit in a head: opaque or copyright, or a display extension that is the first
-head_step : (rule : SliceRule) (d : Bool) (u : StreamUnit) (q : State) → IsKind kind.Extension u → head_extension rule d u.body ≡ go q → Goes (Head rule d) u q
+head_step : (rule : SliceRule) (d : Bool) (u : StreamUnit) (q : State) → IsKind kind.Extension u → head_extension rule d u.body ≡ Ok q → Goes (Head rule d) u q
 head_step rule d u q c e =
     by_test (numbered 2 u.body)
     (λ t.
-    let s : display_step rule d u.body ≡ go q = rw t at e in
+    let s : display_step rule d u.body ≡ Ok q = rw t at e in
     let r = passed ((display_short u.body, _) ∷ (d, _) ∷ []) (by (display_of u.body) (λ x. Head rule true)) q s in
     let w = by_go (display_of u.body) (λ x. Head rule true) q r.1 in
     let n = (number_two u.body).0 t in
     subst (λ d. Goes (Head rule d) u q) (sym r.0.1.0)
     (subst (Goes (Head rule false) u) w.2 (display c (display_extension u.body n) n ((display_good u.body).0 (w.0, w.1)))))
     (λ f.
-    let s : by (extension_result scope.Head u.body) (λ x. Head rule d) ≡ go q = rw f at e in
+    let s : by (extension_result scope.Head u.body) (λ x. Head rule d) ≡ Ok q = rw f at e in
     let w = by_go (extension_result scope.Head u.body) (λ x. Head rule d) q s in
     subst (Goes (Head rule d) u) w.2 (extension c ((head_good u.body f).0 (w.0, w.1)) ((number_not_two u.body).0 f)))
 
-picture_extra : (rule : SliceRule) (u : StreamUnit) (q : State) → IsKind kind.Extension u → picture_extension rule u.body ≡ go q → Goes (InPicture rule) u q
+picture_extra : (rule : SliceRule) (u : StreamUnit) (q : State) → IsKind kind.Extension u → picture_extension rule u.body ≡ Ok q → Goes (InPicture rule) u q
 picture_extra rule u q c e =
     let w = by_go (extension_result scope.Picture u.body) (λ x. InPicture rule) q e in
     subst (Goes (InPicture rule) u) w.2 (extra (inr (c, (picture_good u.body).0 (w.0, w.1))))
@@ -185,34 +183,34 @@ module _ (k : Kind) (u : StreamUnit) (is : IsKind k u) where
   took_sound Ended q (inr e) = elim e [ ]
   took_sound Closed q e = elim e [ ]
 
-pub step_sound : (q : State) (u : StreamUnit) (q' : State) → step q u ≡ go q' → Goes q u q'
+pub step_sound : (q : State) (u : StreamUnit) (q' : State) → step q u ≡ Ok q' → Goes q u q'
 unfolding step
 step_sound q u q' e = by_outcome (kind_of u.code) refl e
   where
-    by_outcome : (o : Outcome Kind) → kind_of u.code ≡ o → by_kind o (λ k. choose k (table q u)) ≡ go q' → Goes q u q'
+    by_outcome : (o : Outcome Kind) → kind_of u.code ≡ o → by_kind o (λ k. choose k (table q u)) ≡ Ok q' → Goes q u q'
     by_outcome (done k) is e = took_sound k u is q q' (choose_go k (table q u) q' e)
     by_outcome (refused n carried) is e = not_go e
 
 -- ── from the grammar to a step ──
 
-step_header : (body : List ℕ) (header : SequenceHeader) → IsHeader body header → header_step body ≡ go (Head (slice_rule header) false)
+step_header : (body : List ℕ) (header : SequenceHeader) → IsHeader body header → header_step body ≡ Ok (Head (slice_rule header) false)
 step_header body header k = goes (header_result body) _ header ((header_good body header).1 k)
 
-step_picture : (rule : SliceRule) (body : List ℕ) → Nonzero body → picture_step rule body ≡ go (InPicture rule)
-step_picture rule body n = pass ((all_zero body, _) ∷ []) (go (InPicture rule)) (nonzero_false body n, tt)
+step_picture : (rule : SliceRule) (body : List ℕ) → Nonzero body → picture_step rule body ≡ Ok (InPicture rule)
+step_picture rule body n = pass ((all_zero body, _) ∷ []) (Ok (InPicture rule)) (nonzero_false body n, tt)
 
-step_display : (rule : SliceRule) (body : List ℕ) → HasNumber body 2 → IsDisplay body → head_extension rule false body ≡ go (Head rule true)
+step_display : (rule : SliceRule) (body : List ℕ) → HasNumber body 2 → IsDisplay body → head_extension rule false body ≡ Ok (Head rule true)
 step_display rule body n d =
     let x = (display_good body).1 d in
     rw ((number_two body).1 n, display_long body x.0 x.1) (goes (display_of body) (λ y. Head rule true) x.0 x.1)
 
-step_extension : (rule : SliceRule) (d : Bool) (body : List ℕ) → Extension body → ¬ HasNumber body 2 → head_extension rule d body ≡ go (Head rule d)
+step_extension : (rule : SliceRule) (d : Bool) (body : List ℕ) → Extension body → ¬ HasNumber body 2 → head_extension rule d body ≡ Ok (Head rule d)
 step_extension rule d body k n =
     let f = (number_not_two body).1 n in
     let x = (head_good body f).1 k in
     rw f (goes (extension_result scope.Head body) (λ y. Head rule d) x.0 x.1)
 
-pub step_complete : {u : StreamUnit} {q q' : State} → Goes q u q' → step q u ≡ go q'
+pub step_complete : {u : StreamUnit} {q q' : State} → Goes q u q' → step q u ≡ Ok q'
 unfolding step
 step_complete (sequence {u} {header} c k) = rw c (step_header u.body header k)
 step_complete (user {u} c) = rw c refl

@@ -23,8 +23,6 @@ use Rattle.grammar.specs.declared.State.{State}
 use Rattle.grammar.specs.declared.State.TheVariants as state
 use Rattle.grammar.specs.declared.Reason.{Reason}
 use Rattle.grammar.specs.declared.Reason.TheVariants as reason
-use Rattle.grammar.specs.declared.Step.{Step}
-use Rattle.grammar.specs.declared.Step.TheVariants.{Go as go, Stop as stop}
 
 -- ── cutting ──
 
@@ -45,15 +43,19 @@ cut (byte ∷ bytes) = cond (begins (byte ∷ bytes)) (cut_here (cut bytes)) (no
 
 -- ── one unit ──
 
+-- what follows a unit: the next state, or why there is none
+abbrev pub Step : Type 0
+Step = Result State Reason
+
 -- the first reason whose test holds, or the step
 abbrev pub guard : List (Bool × Reason) → Step → Step
 guard [] step = step
-guard (c ∷ cs) step = cond c.0 (stop c.1) (guard cs step)
+guard (c ∷ cs) step = cond c.0 (Err c.1) (guard cs step)
 
 -- what reading a body says
 abbrev pub by : {A : Type 0} → Result A Fault → (A → State) → Step
-by (Ok a) next = go (next a)
-by (Err fault) next = stop (reason.Body fault)
+by (Ok a) next = Ok (next a)
+by (Err fault) next = Err (reason.Body fault)
 
 abbrev pub is_nil : {A : Type 0} → List A → Bool
 is_nil [] = true
@@ -76,28 +78,28 @@ abbrev pub picture_extension : SliceRule → List ℕ → Step
 picture_extension rule body = by (extension_result scope.Picture body) (λ x. state.Picture rule)
 
 abbrev pub picture_step : SliceRule → List ℕ → Step
-picture_step rule body = guard ((all_zero body, reason.Body fault.Short) ∷ []) (go (state.Picture rule))
+picture_step rule body = guard ((all_zero body, reason.Body fault.Short) ∷ []) (Ok (state.Picture rule))
 
 -- the order before the row
 abbrev pub slice_step : SliceRule → ℕ → StreamUnit → Step
 slice_step rule least u =
     guard ((all_zero u.body, reason.Body fault.Short) ∷ (rule.tested && ltb u.code least, reason.SliceOrder) ∷ (rule.tested && leb rule.rows u.code, reason.SliceRow) ∷ [])
-    (go (state.Slices rule (u.code + 1)))
+    (Ok (state.Slices rule (u.code + 1)))
 
 abbrev pub ending_step : List ℕ → State → Step
-ending_step body next = guard ((not (is_nil body), reason.Body fault.Stuffing) ∷ []) (go next)
+ending_step body next = guard ((not (is_nil body), reason.Body fault.Stuffing) ∷ []) (Ok next)
 
 -- which kinds of unit may stand here, and what follows each
 abbrev pub table : State → StreamUnit → List (Kind × Step)
 table state.Start u = (kind.SequenceHeader, header_step u.body) ∷ []
 table (state.Head rule display) u =
-    (kind.UserData, go (state.Head rule display))
+    (kind.UserData, Ok (state.Head rule display))
     ∷ (kind.Extension, head_extension rule display u.body)
     ∷ (kind.IPicture, picture_step rule u.body)  -- the first picture is B3
     ∷ []
 table (state.Picture rule) u =
     (kind.Slice, slice_step rule 0 u)
-    ∷ (kind.UserData, go (state.Picture rule))
+    ∷ (kind.UserData, Ok (state.Picture rule))
     ∷ (kind.Extension, picture_extension rule u.body)
     ∷ []
 table (state.Slices rule least) u =
@@ -127,13 +129,13 @@ same_kind j k = eqb (kind_index j) (kind_index k)
 
 -- the step of this kind, or OUT OF PLACE
 abbrev pub choose : Kind → List (Kind × Step) → Step
-choose k [] = stop reason.OutOfPlace
+choose k [] = Err reason.OutOfPlace
 choose k (c ∷ cs) = cond (same_kind k c.0) c.1 (choose k cs)
 
 -- a code with no kind is UNKNOWN
 abbrev pub by_kind : Outcome Kind → (Kind → Step) → Step
 by_kind (done k) next = next k
-by_kind (refused number carried) next = stop reason.Unknown
+by_kind (refused number carried) next = Err reason.Unknown
 
 unfoldable pub step : State → StreamUnit → Step
 step q u = by_kind (kind_of u.code) (λ k. choose k (table q u))
@@ -177,8 +179,8 @@ stop_at why at = Err (record { reason = why; offset = at })
 
 -- go on in the next state, or stop at the unit's offset
 abbrev pub continue : Step → ℕ → (State → Walk) → Walk
-continue (go q) at rest = rest q
-continue (stop why) at rest = stop_at why at
+continue (Ok q) at rest = rest q
+continue (Err why) at rest = stop_at why at
 
 abbrev pub add_unit : Placed → Walk → Walk
 add_unit m rest = map_ok (λ ms. m ∷ ms) rest

@@ -7,7 +7,7 @@ ghost use Rattle.grammar.specs.Reasons.{reason_number};
 use layout::Fault;
 
 // A group's slice rule: whether slices are tested, and the macroblock rows.
-#[derive(Clone, Copy)]
+#[derive(Clone, Copy, Debug, PartialEq, Eq)]
 pub struct SliceRule {
     pub tested: bool,
     pub rows: u32,
@@ -15,7 +15,7 @@ pub struct SliceRule {
 
 // Where the walk stands. Head says whether a display extension was read since the sequence header, Slices the least code
 // that the next slice may have. Ended is after B1, Closed after B7.
-#[derive(Clone, Copy)]
+#[derive(Clone, Copy, Debug, PartialEq, Eq)]
 pub enum State {
     Start,
     Head(SliceRule, bool),
@@ -41,13 +41,6 @@ pub enum Reason {
     Unended,
     Full,
     TooLong,
-}
-
-// What follows a unit: the next state, or why there is none.
-#[derive(Clone, Copy)]
-pub enum Step {
-    Go(State),
-    Stop(Reason),
 }
 
 // The number of what a stream is refused for.

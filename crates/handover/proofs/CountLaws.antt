@@ -14,8 +14,8 @@ use Rattle.bodies.specs.declared.DisplayExtension.{DisplayExtension}
 use Rattle.bodies.specs.declared.CopyrightExtension.{CopyrightExtension}
 use Rattle.bodies.specs.declared.Colour.{Colour}
 use Rattle.bodies.specs.declared.Colour.TheVariants as colour
-use Rattle.ratios.specs.declared.Ratio.{Ratio}
-use Rattle.ratios.specs.declared.Ratio.TheVariants as ratio
+use Rattle.std.proofs.Common.{Option, Some, None}
+use Rattle.ratios.specs.declared.Fraction.{Fraction}
 use Rattle.groups.specs.Groups.{GroupRecord}
 use Rattle.groups.specs.declared.Display.{Display}
 use Rattle.groups.specs.declared.Display.TheVariants as shown
@@ -32,10 +32,10 @@ count_is vs lent room exactly =
     ((λ z. exactly.0 (sym e ∙ z)), (λ p. e ∙ exactly.1 p))
 
 -- done with count 0: with or without room where there are no numbers; where there are two, the count is 2, or the status is FULL
-pub none_counted : (x : Ratio) (lent : List ℕ) → (answered (done (ratio_numbers x)) lent ≡ counted (done 0)) ↔ (x ≡ ratio.NotGiven)
+pub none_counted : (x : Option Fraction) (lent : List ℕ) → (answered (done (ratio_numbers x)) lent ≡ counted (done 0)) ↔ (x ≡ None)
 unfolding answered
-none_counted ratio.NotGiven lent = ((λ e. refl), (λ e. sym (handed_all [] lent (omega arith) refl refl).0))
-none_counted (ratio.Given n d) lent = (
+none_counted None lent = ((λ e. refl), (λ e. sym (handed_all [] lent (omega arith) refl refl).0))
+none_counted (Some f) lent = (
   (λ e.
       by_test (leb 2 (length lent))
       (λ t. let z : ◌≡◌ {A = ℕ} 2 0 = ap (λ (a : Answer). a.count) (rw t at e) in absurd (omega arith))

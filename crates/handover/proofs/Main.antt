@@ -13,7 +13,7 @@ use Rattle.bodies.specs.declared.CopyrightExtension.{CopyrightExtension}
 use Rattle.bodies.proofs.Main as bodies
 use Rattle.bodies.proofs.PlaceLaws.{layout_inside, extension_inside}
 use Rattle.ratios.specs.Ratios.{frame_rate, display_ratio}
-use Rattle.ratios.specs.declared.Ratio.TheVariants as ratio
+use Rattle.std.proofs.Common.{None}
 use Rattle.groups.specs.Groups.{GroupRecord}
 use Rattle.groups.specs.Reader.{group_at}
 use Rattle.groups.specs.declared.Display.TheVariants as shown
@@ -27,10 +27,10 @@ use Rattle.handover.proofs.MarkLaws.{marked_answer}
 use Rattle.handover.proofs.CountLaws.{Plain, Coloured, Shown, Displays, count_is}
 
 -- Frame rates and display ratios: done with count 0 exactly when none is given, whatever is lent.
-pub frame_rate_none : (code : ℕ) (lent : List ℕ) → (answered (done (ratio_numbers (frame_rate code))) lent ≡ counted (done 0)) ↔ (frame_rate code ≡ ratio.NotGiven)
+pub frame_rate_none : (code : ℕ) (lent : List ℕ) → (answered (done (ratio_numbers (frame_rate code))) lent ≡ counted (done 0)) ↔ (frame_rate code ≡ None)
 frame_rate_none code lent = counts.none_counted (frame_rate code) lent
 
-pub display_ratio_none : (aspect : ℕ) (lent : List ℕ) → (answered (done (ratio_numbers (display_ratio aspect))) lent ≡ counted (done 0)) ↔ (display_ratio aspect ≡ ratio.NotGiven)
+pub display_ratio_none : (aspect : ℕ) (lent : List ℕ) → (answered (done (ratio_numbers (display_ratio aspect))) lent ≡ counted (done 0)) ↔ (display_ratio aspect ≡ None)
 display_ratio_none aspect lent = counts.none_counted (display_ratio aspect) lent
 
 -- A group, where there is room: the count is 14 exactly when its display extension is not given, 19 exactly when it is given without

@@ -1,5 +1,5 @@
 -- The numbers of each record in order, as they are handed over. What is not given has no numbers.
-use Rattle.std.specs.Prelude.{ℕ, List, [], ◌∷◌, ◌++◌, Bool, true, false}
+use Rattle.std.specs.Prelude.{ℕ, List, [], ◌∷◌, ◌++◌, Option, Some, None, Bool, true, false}
 use Rattle.bodies.specs.Answers.{Extension, display, copyright, opaque}
 use Rattle.bodies.specs.declared.SequenceHeader.{SequenceHeader}
 use Rattle.bodies.specs.declared.Colour.{Colour}
@@ -8,8 +8,8 @@ use Rattle.bodies.specs.declared.DisplayExtension.{DisplayExtension}
 use Rattle.bodies.specs.declared.CopyrightExtension.{CopyrightExtension}
 use Rattle.bodies.specs.declared.Scope.{Scope}
 use Rattle.bodies.specs.declared.Scope.TheVariants as scope
-use Rattle.ratios.specs.declared.Ratio.{Ratio}
-use Rattle.ratios.specs.declared.Ratio.TheVariants as ratio
+use Rattle.ratios.specs.Ratios.{numerator, denominator}
+use Rattle.ratios.specs.declared.Fraction.{Fraction}
 use Rattle.macroblocks.specs.Macroblocks.{macroblock_columns, macroblock_rows}
 use Rattle.groups.specs.Groups.{GroupRecord}
 use Rattle.groups.specs.declared.Display.{Display}
@@ -45,9 +45,9 @@ display_numbers d = d.format ∷ d.range ∷ d.width ∷ d.height ∷ d.stereo �
 unfoldable pub copyright_numbers : CopyrightExtension → List ℕ
 copyright_numbers c = c.flag ∷ c.owner ∷ c.original ∷ c.number ∷ []
 
-abbrev pub ratio_numbers : Ratio → List ℕ
-ratio_numbers (ratio.Given numerator denominator) = numerator ∷ denominator ∷ []
-ratio_numbers ratio.NotGiven = []
+abbrev pub ratio_numbers : Option Fraction → List ℕ
+ratio_numbers (Some f) = numerator f ∷ denominator f ∷ []
+ratio_numbers None = []
 
 -- ── an extension's body ──
 

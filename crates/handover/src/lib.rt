@@ -15,7 +15,7 @@ use bodies::{
     SequenceHeader,
 };
 use groups::{Display, GroupAnswer};
-use ratios::Ratio;
+use ratios::Fraction;
 use statuses::Answer;
 
 fn long(x: u32) -> u64
@@ -118,12 +118,12 @@ fn hand_copyright(c: CopyrightExtension, numbers: &mut [u64]) -> Answer
     statuses::handed(5)
 }
 
-fn hand_ratio(ratio: Ratio, numbers: &mut [u64]) -> Answer
+fn hand_ratio(ratio: Option<Fraction>, numbers: &mut [u64]) -> Answer
     ensures { Handed result numbers.new (done (ratio_numbers ratio)) numbers.old }
 {
     match ratio {
-        Ratio::Given(numerator, denominator) => hand_over(&[numerator, denominator], numbers),
-        Ratio::NotGiven => statuses::handed(0),
+        Some(Fraction(numerator, denominator)) => hand_over(&[numerator, denominator], numbers),
+        None => statuses::handed(0),
     }
 }
 

@@ -9,7 +9,7 @@ ghost use Rattle.aec.specs.Bins.{start_of, bypass_of, stuffing_of, decode_of, de
 ghost use Rattle.aec.specs.Says.{refusal_number, refusal_carries, stepped_says};
 ghost use Rattle.marked.specs.Payloads.{no_number, no_signed_number, number_answer, signed_answer, begun_answer, plain_answer, bin_answer, pair_answer, entry_number, entry_answer};
 
-use aec::{Decoded, DecodedPair, Started, State, Stepped};
+use aec::{StartError, State, Stepped};
 use contexts::Context;
 use entries::Entry;
 use payload::{Golomb, SignedGolomb};
@@ -177,13 +177,13 @@ pub fn start(bytes: &[u8], bits: usize, state: State) -> Begun
     ensures { result ≡ begun_answer state (start_of bytes.now bits) }
 {
     match aec::start(bytes, bits) {
-        Started::Done(next) => Begun {
+        Ok(next) => Begun {
             status: 0,
             missing: 0,
             state: next,
         },
-        Started::TooLong => not_begun(13, 0, state),
-        Started::PayloadOut(missing) => not_begun(14, missing, state),
+        Err(StartError::TooLong) => not_begun(13, 0, state),
+        Err(StartError::PayloadOut(missing)) => not_begun(14, missing, state),
     }
 }
 
@@ -192,14 +192,14 @@ pub fn decode(bytes: &[u8], bits: usize, state: State, context: Context) -> Bin
     ensures { result ≡ bin_answer state context (decode_of bytes.now bits state context) }
 {
     match aec::decode(bytes, bits, state, context) {
-        Decoded::Done(bin, next, updated) => Bin {
+        Ok(done) => Bin {
             status: 0,
             missing: 0,
-            bin: bin,
-            state: next,
-            context: updated,
+            bin: done.bin,
+            state: done.state,
+            context: done.contexts,
         },
-        Decoded::Refused(why) => Bin {
+        Err(why) => Bin {
             status: bin_number(why),
             missing: bits_missing(why),
             bin: NO_BIN,
@@ -220,15 +220,15 @@ pub fn decode_pair(
     ensures { result ≡ pair_answer state first second (decode_pair_of bytes.now bits state first second) }
 {
     match aec::decode_pair(bytes, bits, state, first, second) {
-        DecodedPair::Done(bin, next, a, b) => PairBin {
+        Ok(done) => PairBin {
             status: 0,
             missing: 0,
-            bin: bin,
-            state: next,
-            first: a,
-            second: b,
+            bin: done.bin,
+            state: done.state,
+            first: done.contexts.first,
+            second: done.contexts.second,
         },
-        DecodedPair::Refused(why) => PairBin {
+        Err(why) => PairBin {
             status: bin_number(why),
             missing: bits_missing(why),
             bin: NO_BIN,
@@ -239,17 +239,17 @@ pub fn decode_pair(
     }
 }
 
-fn plain_bin(answer: Stepped, state: State) -> PlainBin
+fn plain_bin(answer: Result<Stepped, aec::Refusal>, state: State) -> PlainBin
     ensures { result ≡ plain_answer state (stepped_says answer) }
 {
     match answer {
-        Stepped::Done(bin, next) => PlainBin {
+        Ok(done) => PlainBin {
             status: 0,
             missing: 0,
-            bin: bin,
-            state: next,
+            bin: done.bin,
+            state: done.state,
         },
-        Stepped::Refused(why) => PlainBin {
+        Err(why) => PlainBin {
             status: bin_number(why),
             missing: bits_missing(why),
             bin: NO_BIN,

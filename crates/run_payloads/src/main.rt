@@ -2,7 +2,7 @@
 // are missing. tests/payloads_oracle.py has the answers as document 01 gives them.
 #![tactic(auto)]
 
-use aec::{Decoded, Started, State};
+use aec::{StartError, State};
 use contexts::Context;
 use payload::{Golomb, Removed, SignedGolomb};
 use std::io;
@@ -117,12 +117,12 @@ fn bins(rt: &impl Print, bytes: &[u8], x: State, n: u32) -> io::Result<()> {
     let mut c = contexts::fresh();
     for _ in 0..n {
         match aec::decode(bytes, 24, y, c) {
-            Decoded::Done(bin, z, d) => {
-                small(rt, bin)?;
-                y = z;
-                c = d;
+            Ok(done) => {
+                small(rt, done.bin)?;
+                y = done.state;
+                c = done.contexts;
             }
-            Decoded::Refused(why) => return refusal(rt, why),
+            Err(why) => return refusal(rt, why),
         }
     }
     state(rt, y, c)
@@ -136,11 +136,16 @@ fn refusal(rt: &impl Print, why: aec::Refusal) -> io::Result<()> {
     }
 }
 
-fn started(rt: &impl Print, s: Started, bytes: &[u8], count: u32) -> io::Result<()> {
+fn started(
+    rt: &impl Print,
+    s: Result<State, StartError>,
+    bytes: &[u8],
+    count: u32,
+) -> io::Result<()> {
     match s {
-        Started::Done(x) => bins(rt, bytes, x, count),
-        Started::TooLong => number(rt, 13),
-        Started::PayloadOut(missing) => out(rt, missing),
+        Ok(x) => bins(rt, bytes, x, count),
+        Err(StartError::TooLong) => number(rt, 13),
+        Err(StartError::PayloadOut(missing)) => out(rt, missing),
     }
 }
 

@@ -4,208 +4,153 @@
 
 use bits::{Bit, Read};
 use bodies::SequenceHeader;
-use std::io;
-
-// ── what is written ──
-
-fn say(rt: &impl Print, s: &[u8]) -> io::Result<()> {
-    rt.write_all(s)
-}
-
-fn end(rt: &impl Print) -> io::Result<()> {
-    say(rt, b"\n")
-}
-
-fn none(rt: &impl Print) -> io::Result<()> {
-    say(rt, b" none")
-}
-
-// A space and a number, put into spaces.
-fn number(rt: &impl Print, n: u64) -> io::Result<()> {
-    let mut out = [b' '; 21];
-    let next = text::put_number(&mut out, 1, n);
-    say(rt, &out[..next])
-}
-
-fn small(rt: &impl Print, n: u32) -> io::Result<()> {
-    number(rt, n as u64)
-}
-
-fn size(rt: &impl Print, n: usize) -> io::Result<()> {
-    number(rt, n as u64)
-}
-
-fn flag(rt: &impl Print, b: bool) -> io::Result<()> {
-    number(rt, b as u64)
-}
-
-fn hex(rt: &impl Print, s: &[u8]) -> io::Result<()> {
-    let mut out = [b' '; 40];
-    let next = text::put_hex(&mut out, 1, s);
-    say(rt, &out[..next])
-}
+use std::{fmt, io};
+use text::Hex;
 
 // ── bits ──
 
-fn bit(rt: &impl Print, b: Bit) -> io::Result<()> {
-    match b {
-        Bit::Is(value) => small(rt, value),
-        Bit::Missing => none(rt),
-    }
-}
+// A bit, or that there is none.
+#[derive(Drop)]
+struct Shown(Bit);
 
-fn value(rt: &impl Print, r: Read) -> io::Result<()> {
-    match r {
-        Read::Value(v) => small(rt, v),
-        Read::Missing(count) => {
-            say(rt, b" missing")?;
-            small(rt, count)
+impl fmt::Display for Shown {
+    fn fmt<W: fmt::Write>(&self, f: &mut fmt::Formatter<W>) -> fmt::Result {
+        match self.0 {
+            Bit::Is(value) => write!(f, "{value}"),
+            Bit::Missing => write!(f, "none"),
         }
-        Read::TooWide => say(rt, b" wide"),
     }
 }
 
-fn read_in(
-    rt: &impl Print,
-    bytes: &[u8],
-    count: usize,
-    place: usize,
-    width: u32,
-) -> io::Result<()> {
-    say(rt, b"read")?;
-    hex(rt, bytes)?;
-    size(rt, count)?;
-    size(rt, place)?;
-    small(rt, width)?;
-    bit(rt, bits::read_bit(bytes, count, place))?;
-    value(rt, bits::read_bits(bytes, count, place, width))?;
-    end(rt)
+// A number, or why there is none.
+#[derive(Drop)]
+struct Told(Read);
+
+impl fmt::Display for Told {
+    fn fmt<W: fmt::Write>(&self, f: &mut fmt::Formatter<W>) -> fmt::Result {
+        match self.0 {
+            Read::Value(number) => write!(f, "{number}"),
+            Read::Missing(count) => write!(f, "missing {count}"),
+            Read::TooWide => write!(f, "wide"),
+        }
+    }
 }
 
 const HELD: [u8; 7] = *b"\x80\x40\xFF\xFF\xFF\xFF\x9A";
 
-// So many bytes lent, the bit count, the place and the width.
-fn read(rt: &impl Print, lent: usize, count: usize, place: usize, width: u32) -> io::Result<()> {
-    let held = HELD;
-    let length = lent.min(held.len());
-    read_in(rt, &held[..length], count, place, width)
+// So many bytes lent, the bit count, the place and the width: widths 0, 1, 32 and 33; at, across and past the end of the bytes, of the
+// count and of what a number holds.
+const READS: [(usize, usize, usize, u32); 24] = [
+    (7, 56, 0, 0),
+    (7, 56, 0, 9),
+    (7, 56, 9, 1),
+    (7, 56, 15, 32),
+    (7, 56, 16, 32),
+    (7, 56, 24, 32),
+    (7, 56, 25, 32),
+    (7, 56, 16, 33),
+    (7, 56, 55, 1),
+    (7, 56, 56, 0),
+    (7, 56, 56, 1),
+    (7, 56, 56, 32),
+    (7, 56, 99, 0),
+    (7, 56, 99, 9),
+    (7, 17, 16, 1),
+    (7, 17, 16, 2),
+    (7, 17, 0, 32),
+    (7, 0, 0, 1),
+    (2, 99, 0, 16),
+    (2, 99, 0, 17),
+    (0, 8, 0, 0),
+    (0, 8, 0, 1),
+    (7, 18446744073709551615, 18446744073709551615, 1),
+    (7, 18446744073709551615, 30, 32),
+];
+
+fn read(rt: &impl Print, bytes: &[u8], count: usize, place: usize, width: u32) -> io::Result<()> {
+    let bit = Shown(bits::read_bit(bytes, count, place));
+    let number = Told(bits::read_bits(bytes, count, place, width));
+    let bytes = Hex(bytes);
+    println!(rt; "read {bytes} {count} {place} {width} {bit} {number}")
 }
 
-// Widths 0, 1, 32 and 33; at, across and past the end of the bytes, of the count and of what a number holds.
 fn reads(rt: &impl Print) -> io::Result<()> {
-    read(rt, 7, 56, 0, 0)?;
-    read(rt, 7, 56, 0, 9)?;
-    read(rt, 7, 56, 9, 1)?;
-    read(rt, 7, 56, 15, 32)?;
-    read(rt, 7, 56, 16, 32)?;
-    read(rt, 7, 56, 24, 32)?;
-    read(rt, 7, 56, 25, 32)?;
-    read(rt, 7, 56, 16, 33)?;
-    read(rt, 7, 56, 55, 1)?;
-    read(rt, 7, 56, 56, 0)?;
-    read(rt, 7, 56, 56, 1)?;
-    read(rt, 7, 56, 56, 32)?;
-    read(rt, 7, 56, 99, 0)?;
-    read(rt, 7, 56, 99, 9)?;
-    read(rt, 7, 17, 16, 1)?;
-    read(rt, 7, 17, 16, 2)?;
-    read(rt, 7, 17, 0, 32)?;
-    read(rt, 7, 0, 0, 1)?;
-    read(rt, 2, 99, 0, 16)?;
-    read(rt, 2, 99, 0, 17)?;
-    read(rt, 0, 8, 0, 0)?;
-    read(rt, 0, 8, 0, 1)?;
-    read(rt, 7, 18446744073709551615, 18446744073709551615, 1)?;
-    read(rt, 7, 18446744073709551615, 30, 32)
+    let held = HELD;
+    for (lent, count, place, width) in READS {
+        read(rt, &held[..lent.min(held.len())], count, place, width)?;
+    }
+    Ok(())
 }
 
 // ── prefixes ──
 
 const PREFIXES: [u8; 17] = *b"\x00\x00\x01\x00\x00\x00\x01\x00\x01\x00\x00\x02\x00\x00\x01\x00\x00";
 
-fn prefix(rt: &impl Print, at: usize) -> io::Result<()> {
-    say(rt, b"prefix")?;
-    size(rt, at)?;
-    flag(rt, startcode::prefix_at(&PREFIXES, at))?;
-    end(rt)
-}
+// Each of its places, beside them, with a byte too few, and past the end.
+const PREFIX_PLACES: [usize; 10] = [0, 1, 3, 4, 6, 9, 12, 15, 17, 18446744073709551615];
 
-// At each of its places, beside them, with a byte too few, and past the end.
 fn prefixes(rt: &impl Print) -> io::Result<()> {
-    prefix(rt, 0)?;
-    prefix(rt, 1)?;
-    prefix(rt, 3)?;
-    prefix(rt, 4)?;
-    prefix(rt, 6)?;
-    prefix(rt, 9)?;
-    prefix(rt, 12)?;
-    prefix(rt, 15)?;
-    prefix(rt, 17)?;
-    prefix(rt, 18446744073709551615)
+    for at in PREFIX_PLACES {
+        let there = u8::from(startcode::prefix_at(&PREFIXES, at));
+        println!(rt; "prefix {at} {there}")?;
+    }
+    Ok(())
 }
 
 // ── macroblocks ──
 
-fn macroblock(rt: &impl Print, progressive: u32, horizontal: u32, vertical: u32) -> io::Result<()> {
-    let h = SequenceHeader {
-        profile: 0,
-        level: 0,
-        progressive,
-        horizontal,
-        vertical,
-        chroma: 1,
-        precision: 1,
-        aspect: 1,
-        rate: 1,
-        bitrate: 0,
-        delay: 0,
-        buffer: 0,
-    };
-    say(rt, b"macroblocks")?;
-    small(rt, progressive)?;
-    small(rt, horizontal)?;
-    small(rt, vertical)?;
-    small(rt, macroblocks::macroblock_columns(h))?;
-    small(rt, macroblocks::macroblock_rows(h))?;
-    flag(rt, macroblocks::slices_tested(h))?;
-    end(rt)
-}
+// Progressive or not, the width and the height: whole division at its edges; records that no body gives, which are progressive from 1
+// on; the greatest numbers.
+const PICTURES: [(u32, u32, u32); 20] = [
+    (1, 1, 16),
+    (0, 1, 16),
+    (1, 17, 17),
+    (0, 17, 17),
+    (1, 720, 32),
+    (0, 720, 32),
+    (1, 720, 33),
+    (0, 720, 33),
+    (1, 720, 496),
+    (0, 720, 496),
+    (1, 1920, 1080),
+    (0, 1920, 1080),
+    (1, 16383, 2800),
+    (0, 16383, 2800),
+    (1, 0, 2801),
+    (0, 0, 0),
+    (2, 0, 496),
+    (4294967295, 4294967295, 4294967280),
+    (0, 4294967295, 4294967280),
+    (0, 4294967295, 4294967295),
+];
 
-// Whole division at its edges, progressive and not; records that no body gives, which are progressive from 1 on; the greatest
-// numbers.
-fn all_macroblocks(rt: &impl Print) -> io::Result<()> {
-    macroblock(rt, 1, 1, 16)?;
-    macroblock(rt, 0, 1, 16)?;
-    macroblock(rt, 1, 17, 17)?;
-    macroblock(rt, 0, 17, 17)?;
-    macroblock(rt, 1, 720, 32)?;
-    macroblock(rt, 0, 720, 32)?;
-    macroblock(rt, 1, 720, 33)?;
-    macroblock(rt, 0, 720, 33)?;
-    macroblock(rt, 1, 720, 496)?;
-    macroblock(rt, 0, 720, 496)?;
-    macroblock(rt, 1, 1920, 1080)?;
-    macroblock(rt, 0, 1920, 1080)?;
-    macroblock(rt, 1, 16383, 2800)?;
-    macroblock(rt, 0, 16383, 2800)?;
-    macroblock(rt, 1, 0, 2801)?;
-    macroblock(rt, 0, 0, 0)?;
-    macroblock(rt, 2, 0, 496)?;
-    macroblock(rt, 4294967295, 4294967295, 4294967280)?;
-    macroblock(rt, 0, 4294967295, 4294967280)?;
-    macroblock(rt, 0, 4294967295, 4294967295)
+fn pictures(rt: &impl Print) -> io::Result<()> {
+    for (progressive, horizontal, vertical) in PICTURES {
+        let h = SequenceHeader {
+            profile: 0,
+            level: 0,
+            progressive,
+            horizontal,
+            vertical,
+            chroma: 1,
+            precision: 1,
+            aspect: 1,
+            rate: 1,
+            bitrate: 0,
+            delay: 0,
+            buffer: 0,
+        };
+        let columns = macroblocks::macroblock_columns(h);
+        let rows = macroblocks::macroblock_rows(h);
+        let tested = u8::from(macroblocks::slices_tested(h));
+        println!(rt;
+            "macroblocks {progressive} {horizontal} {vertical} {columns} {rows} {tested}"
+        )?;
+    }
+    Ok(())
 }
 
 // ── rows ──
-
-fn row_in(rt: &impl Print, stream: &[u8], words: &[u32], i: usize) -> io::Result<()> {
-    say(rt, b"row")?;
-    size(rt, stream.len())?;
-    size(rt, i)?;
-    flag(rt, rows::row_exists(stream, words, i))?;
-    hex(rt, rows::row_body(stream, words, i))?;
-    end(rt)
-}
 
 const UNITS: [u8; 15] = *b"\x00\x00\x01\xB3\x81\x82\x00\x00\x01\x05\x83\x00\x00\x01\xB1";
 
@@ -216,32 +161,42 @@ const WORDS: [u32; 29] = [
     4294967295, 4294967295, 0, 4294967292, 179, 0,
 ];
 
-fn row(rt: &impl Print, lent: usize, i: usize) -> io::Result<()> {
-    let stream = UNITS;
-    let length = lent.min(stream.len());
-    row_in(rt, &stream[..length], &WORDS, i)
+// So many bytes lent, and the row.
+const ROWS: [(usize, usize); 14] = [
+    (15, 0),
+    (15, 1),
+    (15, 2),
+    (15, 3),
+    (15, 4),
+    (15, 5),
+    (15, 6),
+    (15, 7),
+    (15, 8),
+    (15, 9),
+    (5, 0),
+    (0, 0),
+    (15, 6148914691236517206),
+    (15, 18446744073709551615),
+];
+
+fn row(rt: &impl Print, stream: &[u8], i: usize) -> io::Result<()> {
+    let length = stream.len();
+    let exists = u8::from(rows::row_exists(stream, &WORDS, i));
+    let body = Hex(rows::row_body(stream, &WORDS, i));
+    println!(rt; "row {length} {i} {exists} {body}")
 }
 
 fn all_rows(rt: &impl Print) -> io::Result<()> {
-    row(rt, 15, 0)?;
-    row(rt, 15, 1)?;
-    row(rt, 15, 2)?;
-    row(rt, 15, 3)?;
-    row(rt, 15, 4)?;
-    row(rt, 15, 5)?;
-    row(rt, 15, 6)?;
-    row(rt, 15, 7)?;
-    row(rt, 15, 8)?;
-    row(rt, 15, 9)?;
-    row(rt, 5, 0)?;
-    row(rt, 0, 0)?;
-    row(rt, 15, 6148914691236517206)?;
-    row(rt, 15, 18446744073709551615)
+    let stream = UNITS;
+    for (lent, i) in ROWS {
+        row(rt, &stream[..lent.min(stream.len())], i)?;
+    }
+    Ok(())
 }
 
 fn main(rt: HostRuntime) -> io::Result<()> {
     reads(&rt)?;
     prefixes(&rt)?;
-    all_macroblocks(&rt)?;
+    pictures(&rt)?;
     all_rows(&rt)
 }

@@ -7,7 +7,7 @@ ghost use Rattle.bodies.specs.Reader.{extension_result};
 ghost use Rattle.grammar.specs.Reader.{by, header_step, head_extension, picture_step, slice_step, ending_step};
 
 use bodies::{ExtensionAnswer, HeaderAnswer, Scope};
-use grammar::{Reason, SliceRule, State, Step};
+use grammar::{Reason, SliceRule, State};
 use layout::Fault;
 
 fn all_zero(body: &[u8]) -> bool
@@ -24,7 +24,7 @@ fn all_zero(body: &[u8]) -> bool
 }
 
 // A sequence header begins a group's head, with the rule for its slices and no display extension yet.
-pub fn header_step(body: &[u8]) -> Step
+pub fn header_step(body: &[u8]) -> Result<State, Reason>
     ensures { result ≡ header_step body.now }
 {
     match bodies::sequence_header(body) {
@@ -33,76 +33,76 @@ pub fn header_step(body: &[u8]) -> Step
                 tested: macroblocks::slices_tested(h),
                 rows: macroblocks::macroblock_rows(h),
             };
-            Step::Go(State::Head(rule, false))
+            Ok(State::Head(rule, false))
         }
-        HeaderAnswer::Refused(fault) => Step::Stop(Reason::Body(fault)),
+        HeaderAnswer::Refused(fault) => Err(Reason::Body(fault)),
     }
 }
 
 // An extension whose body is read goes on in the state next.
-pub fn extension_step(body: &[u8], scope: Scope, next: State) -> Step
+pub fn extension_step(body: &[u8], scope: Scope, next: State) -> Result<State, Reason>
     ensures { result ≡ by (extension_result scope body.now) (λ x. next) }
 {
     match bodies::extension(body, scope) {
-        ExtensionAnswer::Display(_) => Step::Go(next),
-        ExtensionAnswer::Copyright(_) => Step::Go(next),
-        ExtensionAnswer::Opaque(_) => Step::Go(next),
-        ExtensionAnswer::Refused(fault) => Step::Stop(Reason::Body(fault)),
+        ExtensionAnswer::Display(_) => Ok(next),
+        ExtensionAnswer::Copyright(_) => Ok(next),
+        ExtensionAnswer::Opaque(_) => Ok(next),
+        ExtensionAnswer::Refused(fault) => Err(Reason::Body(fault)),
     }
 }
 
 // SHORT, then TWICE, then the fields of a display extension.
-pub fn head_extension(rule: SliceRule, display: bool, body: &[u8]) -> Step
+pub fn head_extension(rule: SliceRule, display: bool, body: &[u8]) -> Result<State, Reason>
     ensures { result ≡ head_extension rule display body.now }
 {
     if !bodies::is_display(body) {
         return extension_step(body, Scope::Head, State::Head(rule, display));
     }
     if bodies::display_short(body) {
-        return Step::Stop(Reason::Body(Fault::Short));
+        return Err(Reason::Body(Fault::Short));
     }
     if display {
-        return Step::Stop(Reason::Twice);
+        return Err(Reason::Twice);
     }
     extension_step(body, Scope::Head, State::Head(rule, true))
 }
 
 // A picture header, which is opaque, but holds a nonzero byte.
-pub fn picture_step(rule: SliceRule, body: &[u8]) -> Step
+pub fn picture_step(rule: SliceRule, body: &[u8]) -> Result<State, Reason>
     ensures { result ≡ picture_step rule body.now }
 {
     if all_zero(body) {
-        return Step::Stop(Reason::Body(Fault::Short));
+        return Err(Reason::Body(Fault::Short));
     }
-    Step::Go(State::Picture(rule))
+    Ok(State::Picture(rule))
 }
 
 // A slice, which is opaque, but holds a nonzero byte. Its order is tested before its row.
-pub fn slice_step(rule: SliceRule, least: u32, code: u8, body: &[u8]) -> Step
+pub fn slice_step(rule: SliceRule, least: u32, code: u8, body: &[u8]) -> Result<State, Reason>
     ensures { result ≡ slice_step rule least (record { code = code; body = body.now }) }
 {
     if all_zero(body) {
-        return Step::Stop(Reason::Body(Fault::Short));
+        return Err(Reason::Body(Fault::Short));
     }
     let number = bits::wide(code);
     if !rule.tested {
-        return Step::Go(State::Slices(rule, number + 1));
+        return Ok(State::Slices(rule, number + 1));
     }
     if number < least {
-        return Step::Stop(Reason::SliceOrder);
+        return Err(Reason::SliceOrder);
     }
     if rule.rows <= number {
-        return Step::Stop(Reason::SliceRow);
+        return Err(Reason::SliceRow);
     }
-    Step::Go(State::Slices(rule, number + 1))
+    Ok(State::Slices(rule, number + 1))
 }
 
 // An ending, whose body is empty.
-pub fn ending_step(body: &[u8], next: State) -> Step
+pub fn ending_step(body: &[u8], next: State) -> Result<State, Reason>
     ensures { result ≡ ending_step body.now next }
 {
     if body.len() != 0 {
-        return Step::Stop(Reason::Body(Fault::Stuffing));
+        return Err(Reason::Body(Fault::Stuffing));
     }
-    Step::Go(next)
+    Ok(next)
 }

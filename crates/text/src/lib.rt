@@ -1,14 +1,10 @@
 // Texts put into lent bytes from a place on: what does not fit is cut. The answer is the place after the text.
 #![tactic(auto)]
 
-ghost use Rattle.std.specs.Prelude.{◌≡◌, [], ◌∷◌, ◌/◌, ◌%◌, ◌<◌, min, nat_abs};
+ghost use Rattle.std.specs.Prelude.{Some, ◌≡◌, [], ◌∷◌, ◌/◌, ◌%◌, ◌<◌};
 ghost use Rattle.text.specs.Text.{Put, digit, decimal, signed, hex_digit, hex};
 
-fn least(a: usize, b: usize) -> usize
-    ensures { result ≡ min a b }
-{
-    if a < b { a } else { b }
-}
+use std::fmt;
 
 fn put_byte(out: &mut [u8], at: usize, b: u8) -> usize
     ensures { Put at (b ∷ []) out.old result out.new }
@@ -24,11 +20,9 @@ fn put_byte(out: &mut [u8], at: usize, b: u8) -> usize
 pub fn put(out: &mut [u8], at: usize, s: &[u8]) -> usize
     ensures { Put at s.now out.old result out.new }
 {
-    let mut here = least(at, out.len());
-    let mut k: usize = 0;
-    while k < s.len() {
-        here = put_byte(out, here, s[k]);
-        k += 1;
+    let mut here = at.min(out.len());
+    for byte in s {
+        here = put_byte(out, here, *byte);
     }
     here
 }
@@ -36,7 +30,7 @@ pub fn put(out: &mut [u8], at: usize, s: &[u8]) -> usize
 fn last_digit(n: u64) -> u8
     ensures { result ≡ digit (n % 10) }
 {
-    (48 + n % 10) as u8
+    b'0' + (n % 10) as u8
 }
 
 // A number in decimal.
@@ -50,32 +44,23 @@ pub fn put_number(out: &mut [u8], at: usize, n: u64) -> usize
     put_byte(out, here, last_digit(n))
 }
 
-fn magnitude(n: i32) -> u64
-    ensures { result ≡ nat_abs n }
-{
-    if n < 0 {
-        (0 - n as i64) as u64
-    } else {
-        n as u64
-    }
-}
-
 // A number in decimal, with "-" in front where it is below 0.
 pub fn put_signed(out: &mut [u8], at: usize, n: i32) -> usize
     ensures { Put at (signed n) out.old result out.new }
 {
+    let magnitude = u64::from(n.unsigned_abs());
     if n < 0 {
         let here = put_byte(out, at, b'-');
-        return put_number(out, here, magnitude(n));
+        return put_number(out, here, magnitude);
     }
-    put_number(out, at, magnitude(n))
+    put_number(out, at, magnitude)
 }
 
 fn hex_digit(n: u8) -> u8
     requires { n < 16 }
     ensures { result ≡ hex_digit n }
 {
-    if n < 10 { 48 + n } else { 87 + n }
+    if n < 10 { b'0' + n } else { b'a' - 10 + n }
 }
 
 fn put_pair(out: &mut [u8], at: usize, b: u8) -> usize
@@ -89,14 +74,30 @@ fn put_pair(out: &mut [u8], at: usize, b: u8) -> usize
 pub fn put_hex(out: &mut [u8], at: usize, s: &[u8]) -> usize
     ensures { Put at (hex s.now) out.old result out.new }
 {
-    if s.len() == 0 {
+    if s.is_empty() {
         return put_byte(out, at, b'-');
     }
-    let mut here = least(at, out.len());
-    let mut k: usize = 0;
-    while k < s.len() {
-        here = put_pair(out, here, s[k]);
-        k += 1;
+    let mut here = at.min(out.len());
+    for byte in s {
+        here = put_pair(out, here, *byte);
     }
     here
+}
+
+// Bytes that are printed as put_hex puts them.
+#[derive(Clone, Copy)]
+pub struct Hex<'a>(pub &'a [u8]);
+
+impl fmt::Display for Hex<'_> {
+    ghost output = { λ x. Some (hex x.0.now) };
+
+    fn fmt<W: fmt::Write>(&self, f: &mut fmt::Formatter<W>) -> fmt::Result {
+        if self.0.is_empty() {
+            return write!(f, "-");
+        }
+        for &byte in self.0 {
+            write!(f, "{byte:02x}")?;
+        }
+        Ok(())
+    }
 }

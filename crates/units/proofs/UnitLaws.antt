@@ -1,5 +1,5 @@
 -- The laws of the unit at an offset: what it is, and what it leaves of the walk.
-use Rattle.std.proofs.Common.{Ok}
+use Rattle.std.proofs.Common.{Ok, Err}
 use Prim.Native.Nat.{ℕ, ◌≤◌, ◌<◌, ◌+◌, ◌-◌}
 use mathlib.Core.Path.{◌≡◌, refl, sym, ◌∙◌, ap, subst}
 use mathlib.Core.List.{List}
@@ -14,11 +14,9 @@ use Rattle.bits.proofs.TestLaws.{by_test}
 use Rattle.startcode.specs.Prefix.{begins, next_prefix}
 use Rattle.grammar.specs.Grammar.{StreamUnit, bytes}
 use Rattle.grammar.specs.Rows.{Placed, placed, row_length}
-use Rattle.grammar.specs.Reader.{cut, step, scope_in, Walk, stop_at, continue, add_unit, walk_from}
+use Rattle.grammar.specs.Reader.{Step, cut, step, scope_in, Walk, stop_at, continue, add_unit, walk_from}
 use Rattle.grammar.specs.declared.State.{State}
 use Rattle.grammar.specs.declared.Reason.TheVariants as reason
-use Rattle.grammar.specs.declared.Step.{Step}
-use Rattle.grammar.specs.declared.Step.TheVariants.{Go as go, Stop as stop}
 use Rattle.grammar.proofs.RowLaws.{length_le}
 use Rattle.grammar.proofs.WalkLaws.{left, prefix_fits, chunks_cut, chunks_overlap, chunks_some, unit_between, next_fits, chunks_unit, unit_ends, next_begins}
 use Rattle.units.specs.Reader.{next_of, unit_from, unit_of, unit_at}
@@ -98,7 +96,7 @@ module _ (s : List ℕ) (q : State) (at : ℕ) (b : begins (drop at s) ≡ true)
       ∙ ap (λ (n : ℕ). continue (step q here) at (λ q'. add_unit (placed (scope_in q here) here) (walk_from (cut (drop (next_prefix s (at + 3)) s)).chunks q' n))) (unit_ends s at b h b')
 
   by_step : (t : Step) → step q here ≡ t → Left s q at (next_of t (next_prefix s (at + 3)) (row_length (placed (scope_in q here) here)))
-  by_step (go q') e =
+  by_step (Ok q') e =
       let f = next_fits s at b h b' in
       let l = length_le (placed (scope_in q here) here) in
       let d = length-take (next_prefix s (at + 3) - (at + 4)) (drop (at + 4) s) in
@@ -115,7 +113,7 @@ module _ (s : List ℕ) (q : State) (at : ℕ) (b : begins (drop at s) ≡ true)
         small = omega (arith, f.0, f.1);
         begins_next = next_begins s at b h b';
       }
-  by_step (stop why) e = unit_left ∙ ap goes e
+  by_step (Err why) e = unit_left ∙ ap goes e
 
 pub what_is_left : (s : List ℕ) (q : State) (at : ℕ) → begins (drop at s) ≡ true → Left s q at (unit_at s q at)
 what_is_left s q at b =
@@ -132,7 +130,7 @@ what_is_left s q at b =
 -- where the walk is good a unit stands and goes on
 pub record Stands (s : List ℕ) (q : State) (at : ℕ) : Type 0 where
   pub next : State
-  pub goes_on : step q (unit_between s at (next_prefix s (at + 3))) ≡ go next
+  pub goes_on : step q (unit_between s at (next_prefix s (at + 3))) ≡ Ok next
   pub advanced : let u = unit_between s at (next_prefix s (at + 3)) in Advanced s q at next (next_prefix s (at + 3)) (row_length (placed (scope_in q u) u))
 
 pub stands : (s : List ℕ) (q : State) (at : ℕ) (ms : List Placed) → begins (drop at s) ≡ true → left s q at ≡ Ok ms → Stands s q at
@@ -148,5 +146,5 @@ stands s q at ms b g =
     (λ b'. of_step h b' (step q (here s q at b h b')) refl))
   where
     of_step : (h : at + 3 < length s) (b' : begins (drop (at + 3) s) ≡ false) (t : Step) → step q (unit_between s at (next_prefix s (at + 3))) ≡ t → Stands s q at
-    of_step h b' (go q') e = record { next = q'; goes_on = e; advanced = by_step s q at b h b' (go q') e }
-    of_step h b' (stop why) e = not_ok (sym (by_step s q at b h b' (stop why) e) ∙ g)
+    of_step h b' (Ok q') e = record { next = q'; goes_on = e; advanced = by_step s q at b h b' (Ok q') e }
+    of_step h b' (Err why) e = not_ok (sym (by_step s q at b h b' (Err why) e) ∙ g)

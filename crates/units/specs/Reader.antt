@@ -1,19 +1,17 @@
 -- One unit of a stream, as a computation: the next state, where it ends and its row's length; or why it is refused; or none.
-use Rattle.std.specs.Prelude.{ℕ, ◌+◌, List, [], ◌∷◌, cond, length, drop}
+use Rattle.std.specs.Prelude.{ℕ, ◌+◌, List, [], ◌∷◌, cond, length, drop, Ok, Err}
 use Rattle.startcode.specs.Prefix.{begins}
 use Rattle.grammar.specs.Grammar.{StreamUnit, bytes}
 use Rattle.grammar.specs.Rows.{placed, row_length}
-use Rattle.grammar.specs.Reader.{step, scope_in, is_nil, cut}
+use Rattle.grammar.specs.Reader.{Step, step, scope_in, is_nil, cut}
 use Rattle.grammar.specs.declared.State.{State}
 use Rattle.grammar.specs.declared.Reason.TheVariants as reason
-use Rattle.grammar.specs.declared.Step.{Step}
-use Rattle.grammar.specs.declared.Step.TheVariants.{Go, Stop}
 use Rattle.units.specs.declared.UnitAnswer.{UnitAnswer}
 use Rattle.units.specs.declared.UnitAnswer.TheVariants as answer
 
 abbrev pub next_of : Step → ℕ → ℕ → UnitAnswer
-next_of (Go q) end length = answer.Next q end length
-next_of (Stop why) end length = answer.Refused why
+next_of (Ok q) end length = answer.Next q end length
+next_of (Err why) end length = answer.Refused why
 
 -- a unit that ends at an offset, read in state q
 abbrev pub unit_from : State → StreamUnit → ℕ → UnitAnswer

@@ -9,7 +9,7 @@ ghost use Rattle.units.specs.Reader.{unit_from, unit_at};
 ghost use Rattle.units.specs.Inside.{extension_scope};
 
 use bodies::Scope;
-use grammar::{Reason, SliceRule, State, Step};
+use grammar::{Reason, SliceRule, State};
 use startcode::{Kind, UnitKind};
 
 // The state after a unit, where it ends and its row's length; or why it is refused; or that no unit begins here.
@@ -23,13 +23,13 @@ pub enum UnitAnswer {
 // ── one unit, by the state that it is read in ──
 
 // Outside groups: at the start only B0 may stand, and after B1 only B7.
-fn outside_groups(ended: bool, kind: Kind, code: u8, body: &[u8]) -> Step
+fn outside_groups(ended: bool, kind: Kind, code: u8, body: &[u8]) -> Result<State, Reason>
     ensures { result ≡ choose kind (table (cond ended State.Ended State.Start) (record { code = code; body = body.now })) }
 {
     match kind {
         Kind::SequenceHeader => {
             if ended {
-                return Step::Stop(Reason::OutOfPlace);
+                return Err(Reason::OutOfPlace);
             }
             steps::header_step(body)
         }
@@ -37,35 +37,35 @@ fn outside_groups(ended: bool, kind: Kind, code: u8, body: &[u8]) -> Step
             if ended {
                 return steps::ending_step(body, State::Closed);
             }
-            Step::Stop(Reason::OutOfPlace)
+            Err(Reason::OutOfPlace)
         }
-        _ => Step::Stop(Reason::OutOfPlace),
+        _ => Err(Reason::OutOfPlace),
     }
 }
 
-fn in_head(rule: SliceRule, display: bool, kind: Kind, code: u8, body: &[u8]) -> Step
+fn in_head(rule: SliceRule, display: bool, kind: Kind, code: u8, body: &[u8]) -> Result<State, Reason>
     ensures { result ≡ choose kind (table (State.Head rule display) (record { code = code; body = body.now })) }
 {
     match kind {
-        Kind::UserData => Step::Go(State::Head(rule, display)),
+        Kind::UserData => Ok(State::Head(rule, display)),
         Kind::Extension => steps::head_extension(rule, display, body),
         Kind::IPicture => steps::picture_step(rule, body),
-        _ => Step::Stop(Reason::OutOfPlace),
+        _ => Err(Reason::OutOfPlace),
     }
 }
 
-fn in_picture(rule: SliceRule, kind: Kind, code: u8, body: &[u8]) -> Step
+fn in_picture(rule: SliceRule, kind: Kind, code: u8, body: &[u8]) -> Result<State, Reason>
     ensures { result ≡ choose kind (table (State.Picture rule) (record { code = code; body = body.now })) }
 {
     match kind {
         Kind::Slice => steps::slice_step(rule, 0, code, body),
-        Kind::UserData => Step::Go(State::Picture(rule)),
+        Kind::UserData => Ok(State::Picture(rule)),
         Kind::Extension => steps::extension_step(body, Scope::Picture, State::Picture(rule)),
-        _ => Step::Stop(Reason::OutOfPlace),
+        _ => Err(Reason::OutOfPlace),
     }
 }
 
-fn after_slice(rule: SliceRule, least: u32, kind: Kind, code: u8, body: &[u8]) -> Step
+fn after_slice(rule: SliceRule, least: u32, kind: Kind, code: u8, body: &[u8]) -> Result<State, Reason>
     ensures { result ≡ choose kind (table (State.Slices rule least) (record { code = code; body = body.now })) }
 {
     match kind {
@@ -75,11 +75,11 @@ fn after_slice(rule: SliceRule, least: u32, kind: Kind, code: u8, body: &[u8]) -
         Kind::SequenceHeader => steps::header_step(body),
         Kind::SequenceEnd => steps::ending_step(body, State::Ended),
         Kind::EditCode => steps::ending_step(body, State::Closed),
-        _ => Step::Stop(Reason::OutOfPlace),
+        _ => Err(Reason::OutOfPlace),
     }
 }
 
-fn in_state(state: State, kind: Kind, code: u8, body: &[u8]) -> Step
+fn in_state(state: State, kind: Kind, code: u8, body: &[u8]) -> Result<State, Reason>
     ensures { result ≡ choose kind (table state (record { code = code; body = body.now })) }
 {
     match state {
@@ -88,7 +88,7 @@ fn in_state(state: State, kind: Kind, code: u8, body: &[u8]) -> Step
         State::Picture(rule) => in_picture(rule, kind, code, body),
         State::Slices(rule, least) => after_slice(rule, least, kind, code, body),
         State::Ended => outside_groups(true, kind, code, body),
-        State::Closed => Step::Stop(Reason::OutOfPlace),
+        State::Closed => Err(Reason::OutOfPlace),
     }
 }
 
@@ -163,8 +163,8 @@ fn unit_of(state: State, code: u8, body: &[u8], end: usize) -> UnitAnswer
         UnitKind::Is(kind) => {
             let scope = scope_in(state);
             match in_state(state, kind, code, body) {
-                Step::Go(next) => UnitAnswer::Next(next, end, length_in(scope, kind, body)),
-                Step::Stop(why) => UnitAnswer::Refused(why),
+                Ok(next) => UnitAnswer::Next(next, end, length_in(scope, kind, body)),
+                Err(why) => UnitAnswer::Refused(why),
             }
         }
         UnitKind::Unknown => UnitAnswer::Refused(Reason::Unknown),

@@ -1,63 +1,50 @@
 -- What is left to do is the whole, at each turn.
 use Prim.Native.Nat.{ℕ}
-use mathlib.Core.Path.{◌≡◌, refl, sym, ap, ◌∙◌}
+use mathlib.Core.Path.{refl, sym}
 use mathlib.Core.List.{List}
 use native.Mathlib.Omega.{arith}
 use borrow.Author.Tests.{le-leb, lt-leb}
-use lib.ListN.{drop}
-use Rattle.answers.specs.Answers.{done}
+use borrow.Author.Rules.{rules}
 use Rattle.bits.specs.Bits.{payload}
 use Rattle.bits.proofs.BitLaws.{all_payload}
-use Rattle.aec.specs.Bins.{double_of}
-use Rattle.aec.specs.Inside.{doubled_says}
-use Rattle.aec.specs.declared.Shift.{Shift}
 use Rattle.aec.proofs.RangeLaws.{payload_bound}
 use Rattle.aec.proofs.ShiftLaws.{Taken, taken, loop_on, loop_stops, loop_ends}
-use borrow.Author.Rules.{rules}
-use Rattle.aec.proofs.normalise.Invariants.{counted, enough}
+use Rattle.aec.proofs.normalise.Invariants.{enough, counted}
 use Rattle.aec.proofs.normalise.Goals as goal
-use Rattle.aec.proofs.normalise.Goals.{At-loop-v, In-Done}
+use Rattle.aec.proofs.normalise.Goals.{At-loop-z, In_ok-more}
 
--- the shift that a turn begins with, and the payload's bits
-module _ (l : At-loop-v) where
-  abbrev shift : Shift
-  shift = record { value = l.loop-v.v; beside = l.loop-v.n; place = l.loop-v.at }
+abbrev bits : At-loop-z → List ℕ
+bits l = let a = l.args in payload a.bytes.now a.count
 
-  abbrev bits : List ℕ
-  bits = let a = l.args in payload a.bytes.now a.count
+pub loop-z-init : goal.loop-z-init
+loop-z-init c = (search rules, search rules, search rules, refl)
 
-pub loop-v-init : goal.loop-v-init
-loop-v-init c = (search rules, search rules, search rules, refl)
+bound : (c : In_ok-more) → Taken (payload c.args.bytes.now c.args.count) c.loop-z.z.value c.loop-z.z.place c.in_ok-more.more.number c.in_ok-more.more.next
+bound c = let a = c.args in taken (payload a.bytes.now a.count) _ _ _ _ (all_payload a.bytes.now a.count) (sym c.in_ok-more.ensures)
 
-module _ (c : In-Done) where
-  bit_taken : done (c.in-Done.more, c.in-Done.next) ≡ double_of (drop c.loop-v.at (payload c.args.bytes.now c.args.count)) c.loop-v.v c.loop-v.at
-  bit_taken = ap doubled_says (sym c.in-Done.is) ∙ c.take_bit.ensures
-
-  bound : Taken (payload c.args.bytes.now c.args.count) c.loop-v.v c.loop-v.at c.in-Done.more c.in-Done.next
-  bound = let a = c.args in taken (payload c.args.bytes.now c.args.count) _ _ _ _ (all_payload a.bytes.now a.count) (sym bit_taken)
-
-pub overflow_add-n : goal.overflow_add-n
-overflow_add-n c =
-    let b = bound c in
+pub overflow_add-z : goal.overflow_add-z
+overflow_add-z c =
+    let b = bound (goal.at.overflow_add-z c).In_ok-more in
     omega (arith, payload_bound c.args.bytes.now c.args.count c.requires.0)
 
-pub loop-v-smaller : goal.loop-v-smaller
-loop-v-smaller c = let b = bound c in omega arith
+pub loop-z-smaller : goal.loop-z-smaller
+loop-z-smaller c = let b = bound (goal.at.loop-z-smaller c).In_ok-more in omega arith
 
-pub loop-v-preserved : goal.loop-v-preserved
-loop-v-preserved c =
-    let l = (goal.at.loop-v-preserved c).At-loop-v in
-    let b = bound c in
-    let h = lt-leb 256 c.loop-v.v c.loop-v-test.true in
-    (omega arith, omega arith, omega arith, loop_on enough counted (bits l) (shift l) _ c.loop-v.invariant.3 _ h (bit_taken c))
+pub loop-z-preserved : goal.loop-z-preserved
+loop-z-preserved c =
+    let l = (goal.at.loop-z-preserved c).At-loop-z in
+    let b = bound (goal.at.loop-z-preserved c).In_ok-more in
+    let h = lt-leb 256 _ c.loop-z-test.true in
+    (omega arith, omega arith, omega arith, loop_on enough counted (bits l) l.loop-z.z _ c.loop-z.invariant.3 _ h c.in_ok-more.ensures)
 
-pub returns-in-Refused : goal.returns-in-Refused
-returns-in-Refused c =
-    let p = (goal.at.returns-in-Refused c).At-loop-v in
-    let h = lt-leb 256 c.loop-v.v c.loop-v-test.true in
-    loop_stops enough counted (bits p) (shift p) _ c.loop-v.invariant.3 c.in-Refused.r h (ap doubled_says (sym c.in-Refused.is) ∙ c.take_bit.ensures)
+pub returns-in_err-more : goal.returns-in_err-more
+returns-in_err-more c =
+    let l = (goal.at.returns-in_err-more c).At-loop-z in
+    let h = lt-leb 256 _ c.loop-z-test.true in
+    let e = loop_stops enough counted (bits l) l.loop-z.z _ c.loop-z.invariant.3 _ h c.in_err-more.ensures in
+    search rules
 
 pub returns : goal.returns
 returns c =
-    let r = (goal.at.returns c).At-loop-v in
-    loop_ends enough counted (bits r) (shift r) _ c.loop-v.invariant.3 (le-leb 256 c.loop-v.v c.loop-v-test.false)
+    let l = (goal.at.returns c).At-loop-z in
+    loop_ends enough counted (bits l) l.loop-z.z _ c.loop-z.invariant.3 (le-leb 256 _ c.loop-z-test.false)

@@ -15,11 +15,11 @@ enough z = leb 256 z.value
 abbrev pub counted : ℕ → ℕ
 counted n = n + 1
 
-abbrev pub invariant-loop-v : goal.invariant-loop-v
-invariant-loop-v l =
+abbrev pub invariant-loop-z : goal.invariant-loop-z
+invariant-loop-z l =
     let bits = payload l.bytes l.count in
-    (l.at ≤ length bits) × (l.n ≤ l.at) × (l.v < 1048576)
-    × (normalise_of bits l.value l.place ≡ shifts enough counted (drop l.at bits) (record { value = l.v; beside = l.n; place = l.at }))
+    (l.z.place ≤ length bits) × (l.z.beside ≤ l.z.place) × (l.z.value < 1048576)
+    × (normalise_of bits l.value l.place ≡ shifts enough counted (drop l.z.place bits) l.z)
 
-abbrev pub decreases-loop-v : goal.decreases-loop-v
-decreases-loop-v l = length (payload l.bytes l.count) - l.at
+abbrev pub decreases-loop-z : goal.decreases-loop-z
+decreases-loop-z l = length (payload l.bytes l.count) - l.z.place

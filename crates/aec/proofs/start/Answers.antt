@@ -10,13 +10,11 @@ use Rattle.bits.specs.Bits.{payload, read_at, read_or}
 use Rattle.bits.specs.declared.Read.TheVariants.{Value}
 use Rattle.bits.proofs.BitLaws.{within_value, within_missing, never_wide}
 use Rattle.aec.specs.Bins.{settle_of, start_of}
-use Rattle.aec.specs.Inside.{settled_says}
-use Rattle.aec.specs.declared.Settled.{Settled}
 use Rattle.aec.specs.declared.State.{State}
 use Rattle.aec.proofs.StepLaws.{limit_passed, limit_kept, nine_bits}
 use Rattle.aec.proofs.GoodLaws.{settle_refused}
 use Rattle.aec.proofs.start.Goals as goal
-use Rattle.aec.proofs.start.Goals.{After-read_bits, After-settle}
+use Rattle.aec.proofs.start.Goals.{After-read_bits}
 
 pub returns-then-bytes-gt-LIMIT : goal.returns-then-bytes-gt-LIMIT
 unfolding start_of
@@ -40,25 +38,19 @@ module _ (c : After-read_bits) where
   unfolding start_of
   answer = limit_kept _ _ c.if-bytes-gt-LIMIT.false
 
--- with the nine bits there, it is what they settle to
-settles : (c : After-settle) (x : Settled) → c.settle.result ≡ x →
-    settled_says x ≡ settle_of (payload c.args.bytes.now c.args.count) 255 c.in-Value.value 9
-settles c x e = ap settled_says (sym e) ∙ c.settle.ensures
-
 started : (c : After-read_bits) (v : ℕ) → c.read_bits.result ≡ Value v → settle_of (bits c) 255 v 9 ≡ start_of c.args.bytes.now c.args.count
 started c v e =
     let r = within_value (bits c) 0 9 (omega arith) _ (sym c.read_bits.ensures ∙ e) in
     ap (by_read c) (sym r) ∙ answer c
 
-pub returns-in-Done : goal.returns-in-Done
-returns-in-Done c =
-    settles (goal.at.returns-in-Done c).After-settle _ c.in-Done.is ∙ started (goal.at.returns-in-Done c).After-read_bits c.in-Value.value c.in-Value.is
+pub returns-in-Ok : goal.returns-in-Ok
+returns-in-Ok c = c.in-Ok.ensures ∙ started (goal.at.returns-in-Ok c).After-read_bits c.in-Value.value c.in-Value.is
 
-pub returns-in-Refused : goal.returns-in-Refused
-returns-in-Refused c =
-    let r = (goal.at.returns-in-Refused c).After-read_bits in
+pub returns-in-Err : goal.returns-in-Err
+returns-in-Err c =
+    let r = (goal.at.returns-in-Err c).After-read_bits in
     let v = c.in-Value.value in
-    settle_refused (bits r) 255 v 9 c.in-Refused.field-0 (settles (goal.at.returns-in-Refused c).After-settle _ c.in-Refused.is) ∙ started r v c.in-Value.is
+    settle_refused (bits r) 255 v 9 c.in-Err.field-0 c.in-Err.ensures ∙ started r v c.in-Value.is
 
 pub returns-in-Missing : goal.returns-in-Missing
 returns-in-Missing c =

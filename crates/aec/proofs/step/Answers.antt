@@ -1,5 +1,6 @@
 -- A bin that was predicted, or was not.
-use mathlib.Core.Path.{sym, ◌∙◌}
+use mathlib.Core.Path.{sym, ap, ◌∙◌}
+use Rattle.answers.specs.Answers.{done}
 use Rattle.aec.proofs.StepLaws.{bin_hit}
 use Rattle.aec.proofs.step.Goals as goal
 
@@ -8,8 +9,5 @@ quick-requires c =
     let e = c.requires in
     (e.0, e.1, e.2, sym c.misses.ensures ∙ c.if-misses.true, e.3)
 
-pub returns-then-misses : goal.returns-then-misses
-returns-then-misses c = c.quick.ensures
-
 pub returns : goal.returns
-returns c = bin_hit _ _ _ _ (sym c.misses.ensures ∙ c.if-misses.false)
+returns c = ap (λ next. done (c.args.p, next)) c.predicted.ensures ∙ bin_hit _ _ _ _ (sym c.misses.ensures ∙ c.if-misses.false)

@@ -1,14 +1,14 @@
 -- What valueT becomes, widened with R and settled.
 use Prim.Native.Nat.{◌%◌, ◌≤◌, ◌<◌, ℕ}
-use mathlib.Core.Path.{◌≡◌, sym, ap, ◌∙◌}
+use mathlib.Core.Path.{sym, ◌∙◌}
 use mathlib.Core.List.{List}
 use native.Mathlib.Omega.{arith}
+use borrow.Author.Rules.{rules}
 use lib.ListN.{length}
-use Rattle.answers.specs.Answers.{Outcome, done}
+use Rattle.answers.specs.Answers.{Outcome, and_then}
 use Rattle.bits.specs.Bits.{payload}
 use Rattle.bits.proofs.BitLaws.{all_payload}
-use Rattle.aec.specs.Bins.{remainder_of, widen_of, settle_of, unpredicted_of}
-use Rattle.aec.specs.Inside.{doubled_says, shifted_says}
+use Rattle.aec.specs.Bins.{widen_of, settle_of, unpredicted_of}
 use Rattle.aec.specs.declared.Shift.{Shift}
 use Rattle.aec.specs.declared.Split.{Split}
 use Rattle.aec.specs.declared.State.{State}
@@ -17,7 +17,7 @@ use Rattle.aec.proofs.RangeLaws.{StateRanges, state_ranges}
 use Rattle.aec.proofs.ShiftLaws.{widened}
 use Rattle.aec.proofs.StepLaws.{remainder_within}
 use Rattle.aec.proofs.unpredicted.Goals as goal
-use Rattle.aec.proofs.unpredicted.Goals.{In-Done}
+use Rattle.aec.proofs.unpredicted.Goals.{In_ok-v}
 
 -- the two steps before the value is settled
 abbrev widening : List ℕ → Split → ℕ × ℕ → Outcome Shift
@@ -29,46 +29,47 @@ settling bits v z = settle_of bits (z.beside % 256) z.value z.place
 pub remainder-requires : goal.remainder-requires
 remainder-requires c = let p = c.requires in let r = state_ranges _ _ p.1 in (r.vt, p.3.t, p.2)
 
-module _ (c : In-Done) where
+module _ (c : In_ok-v) where
   abbrev bits : List ℕ
   bits = payload c.args.bytes.now c.args.count
 
-  abbrev value : ℕ × ℕ
-  value = (c.in-Done.value, c.in-Done.place)
-
-  remains : done value ≡ remainder_of bits c.args.x c.args.y
-  remains = ap doubled_says (sym c.in-Done.is) ∙ c.remainder.ensures
-
-  within : (value.0 < 768) × (c.args.x.place ≤ value.1) × (value.1 ≤ length bits)
+  within : (c.in_ok-v.v.number < 768) × (c.args.x.place ≤ c.in_ok-v.v.next) × (c.in_ok-v.v.next ≤ length bits)
   within =
       let r : StateRanges (length bits) c.args.x = state_ranges _ _ c.requires.1 in
-      remainder_within bits c.args.x c.args.y value (all_payload c.args.bytes.now c.args.count) r.vt r.place (sym remains)
+      let v = c.in_ok-v.v in
+      remainder_within bits c.args.x c.args.y (v.number, v.next) (all_payload c.args.bytes.now c.args.count) r.vt r.place (sym c.in_ok-v.ensures)
+
+pub returns-in_err-v : goal.returns-in_err-v
+unfolding unpredicted_of
+returns-in_err-v c =
+    let a = c.args in
+    let l = payload a.bytes.now a.count in
+    let e = stops (λ v. and_then (widening l a.y v) (settling l v)) c.in_err-v.ensures in
+    search rules
 
 pub widen-requires : goal.widen-requires
-widen-requires c = let w = within c in let p = c.requires in (p.0, w.2, omega arith, p.3.high)
+widen-requires c =
+    let w = within (goal.at.widen-requires c).In_ok-v in
+    let p = c.requires in
+    (p.0, w.2, omega arith, p.3.high)
+
+pub returns-in_err-z : goal.returns-in_err-z
+unfolding unpredicted_of
+returns-in_err-z c =
+    let k = (goal.at.returns-in_err-z c).In_ok-v in
+    let e = stops_next (widening (bits k) c.args.y) (settling (bits k)) c.in_ok-v.ensures c.in_err-z.ensures in
+    search rules
 
 pub settle-requires : goal.settle-requires
 settle-requires c =
-    let k = (goal.at.settle-requires c).In-Done in
+    let k = (goal.at.settle-requires c).In_ok-v in
     let p = c.requires in
     let w = within k in
-    let e : done c.in-Done-widen.z ≡ widening (bits k) c.args.y (value k) = ap shifted_says (sym c.in-Done-widen.is) ∙ c.widen.ensures in
-    let h = widened (bits k) _ _ _ c.in-Done-widen.z (all_payload c.args.bytes.now c.args.count) w.2 (omega arith) p.3.high (sym e) in
+    let h = widened (bits k) _ _ _ c.in_ok-z.z (all_payload c.args.bytes.now c.args.count) w.2 (omega arith) p.3.high (sym c.in_ok-z.ensures) in
     (p.0, h.3, omega arith)
 
-pub returns-in-Done-widen : goal.returns-in-Done-widen
+pub returns : goal.returns
 unfolding unpredicted_of
-returns-in-Done-widen c =
-    let k = (goal.at.returns-in-Done-widen c).In-Done in
-    c.settle.ensures
-    ∙ goes_on (widening (bits k) c.args.y) (settling (bits k)) (remains k) c.in-Done-widen.z (ap shifted_says (sym c.in-Done-widen.is) ∙ c.widen.ensures)
-
-pub returns-in-Refused-widen : goal.returns-in-Refused-widen
-unfolding unpredicted_of
-returns-in-Refused-widen c =
-    let k = (goal.at.returns-in-Refused-widen c).In-Done in
-    stops_next (widening (bits k) c.args.y) (settling (bits k)) (remains k) (ap shifted_says (sym c.in-Refused-widen.is) ∙ c.widen.ensures)
-
-pub returns-in-Refused : goal.returns-in-Refused
-unfolding unpredicted_of
-returns-in-Refused c = stops _ (ap doubled_says (sym c.in-Refused.is) ∙ c.remainder.ensures)
+returns c =
+    let k = (goal.at.returns c).In_ok-v in
+    c.settle.ensures ∙ goes_on (widening (bits k) c.args.y) (settling (bits k)) c.in_ok-v.ensures c.in_ok-z.z c.in_ok-z.ensures

@@ -1,57 +1,44 @@
 -- What is left to do is the whole, at each turn.
 use Prim.Native.Nat.{ℕ}
-use mathlib.Core.Path.{◌≡◌, refl, sym, ap, ◌∙◌}
+use mathlib.Core.Path.{refl, sym}
 use mathlib.Core.List.{List}
 use native.Mathlib.Omega.{arith}
 use borrow.Author.Tests.{le-leb, lt-leb}
-use lib.ListN.{drop}
-use Rattle.answers.specs.Answers.{done}
+use borrow.Author.Rules.{rules}
 use Rattle.bits.specs.Bits.{payload}
 use Rattle.bits.proofs.BitLaws.{all_payload}
-use Rattle.aec.specs.Bins.{double_of}
-use Rattle.aec.specs.Inside.{doubled_says}
-use Rattle.aec.specs.declared.Shift.{Shift}
 use Rattle.aec.proofs.ShiftLaws.{Taken, taken, loop_on, loop_stops, loop_ends}
-use borrow.Author.Rules.{rules}
 use Rattle.aec.proofs.widen.Invariants.{enough, twice}
 use Rattle.aec.proofs.widen.Goals as goal
-use Rattle.aec.proofs.widen.Goals.{At-loop-wide, In-Done}
+use Rattle.aec.proofs.widen.Goals.{At-loop-z, In_ok-more}
 
--- the shift that a turn begins with, and the payload's bits
-module _ (l : At-loop-wide) where
-  abbrev shift : Shift
-  shift = record { value = l.loop-wide.v; beside = l.loop-wide.wide; place = l.loop-wide.at }
+abbrev bits : At-loop-z → List ℕ
+bits l = let a = l.args in payload a.bytes.now a.count
 
-  abbrev bits : List ℕ
-  bits = let a = l.args in payload a.bytes.now a.count
+pub loop-z-init : goal.loop-z-init
+loop-z-init c = (search rules, search rules, search rules, refl)
 
-pub loop-wide-init : goal.loop-wide-init
-loop-wide-init c = (search rules, search rules, search rules, refl)
+bound : (c : In_ok-more) → Taken (payload c.args.bytes.now c.args.count) c.loop-z.z.value c.loop-z.z.place c.in_ok-more.more.number c.in_ok-more.more.next
+bound c = let a = c.args in taken (payload a.bytes.now a.count) _ _ _ _ (all_payload a.bytes.now a.count) (sym c.in_ok-more.ensures)
 
-module _ (c : In-Done) where
-  bit_taken : done (c.in-Done.more, c.in-Done.next) ≡ double_of (drop c.loop-wide.at (payload c.args.bytes.now c.args.count)) c.loop-wide.v c.loop-wide.at
-  bit_taken = ap doubled_says (sym c.in-Done.is) ∙ c.take_bit.ensures
+pub loop-z-smaller : goal.loop-z-smaller
+loop-z-smaller c = let b = bound (goal.at.loop-z-smaller c).In_ok-more in omega arith
 
-  bound : Taken (payload c.args.bytes.now c.args.count) c.loop-wide.v c.loop-wide.at c.in-Done.more c.in-Done.next
-  bound = let a = c.args in taken (payload c.args.bytes.now c.args.count) _ _ _ _ (all_payload a.bytes.now a.count) (sym bit_taken)
+pub loop-z-preserved : goal.loop-z-preserved
+loop-z-preserved c =
+    let l = (goal.at.loop-z-preserved c).At-loop-z in
+    let b = bound (goal.at.loop-z-preserved c).In_ok-more in
+    let h = lt-leb 256 _ c.loop-z-test.true in
+    (omega arith, omega arith, omega arith, loop_on enough twice (bits l) l.loop-z.z _ c.loop-z.invariant.3 _ h c.in_ok-more.ensures)
 
-pub loop-wide-smaller : goal.loop-wide-smaller
-loop-wide-smaller c = let b = bound c in omega arith
-
-pub loop-wide-preserved : goal.loop-wide-preserved
-loop-wide-preserved c =
-    let l = (goal.at.loop-wide-preserved c).At-loop-wide in
-    let b = bound c in
-    let h = lt-leb 256 c.loop-wide.wide c.loop-wide-test.true in
-    (omega arith, omega arith, omega arith, loop_on enough twice (bits l) (shift l) _ c.loop-wide.invariant.3 _ h (bit_taken c))
-
-pub returns-in-Refused : goal.returns-in-Refused
-returns-in-Refused c =
-    let p = (goal.at.returns-in-Refused c).At-loop-wide in
-    let h = lt-leb 256 c.loop-wide.wide c.loop-wide-test.true in
-    loop_stops enough twice (bits p) (shift p) _ c.loop-wide.invariant.3 c.in-Refused.r h (ap doubled_says (sym c.in-Refused.is) ∙ c.take_bit.ensures)
+pub returns-in_err-more : goal.returns-in_err-more
+returns-in_err-more c =
+    let l = (goal.at.returns-in_err-more c).At-loop-z in
+    let h = lt-leb 256 _ c.loop-z-test.true in
+    let e = loop_stops enough twice (bits l) l.loop-z.z _ c.loop-z.invariant.3 _ h c.in_err-more.ensures in
+    search rules
 
 pub returns : goal.returns
 returns c =
-    let r = (goal.at.returns c).At-loop-wide in
-    loop_ends enough twice (bits r) (shift r) _ c.loop-wide.invariant.3 (le-leb 256 c.loop-wide.wide c.loop-wide-test.false)
+    let l = (goal.at.returns c).At-loop-z in
+    loop_ends enough twice (bits l) l.loop-z.z _ c.loop-z.invariant.3 (le-leb 256 _ c.loop-z-test.false)

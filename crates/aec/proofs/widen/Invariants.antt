@@ -13,13 +13,13 @@ abbrev pub enough : Shift → Bool
 enough z = leb 256 z.beside
 
 abbrev pub twice : ℕ → ℕ
-twice r = r * 2
+twice n = n * 2
 
-abbrev pub invariant-loop-wide : goal.invariant-loop-wide
-invariant-loop-wide l =
+abbrev pub invariant-loop-z : goal.invariant-loop-z
+invariant-loop-z l =
     let bits = payload l.bytes l.count in
-    (l.at ≤ length bits) × (l.v < 768 * l.wide) × (l.wide < 512)
-    × (widen_of bits l.value l.range l.place ≡ shifts enough twice (drop l.at bits) (record { value = l.v; beside = l.wide; place = l.at }))
+    (l.z.place ≤ length bits) × (l.z.value < 768 * l.z.beside) × (l.z.beside < 512)
+    × (widen_of bits l.value l.range l.place ≡ shifts enough twice (drop l.z.place bits) l.z)
 
-abbrev pub decreases-loop-wide : goal.decreases-loop-wide
-decreases-loop-wide l = length (payload l.bytes l.count) - l.at
+abbrev pub decreases-loop-z : goal.decreases-loop-z
+decreases-loop-z l = length (payload l.bytes l.count) - l.z.place

@@ -1,4 +1,5 @@
 -- The layout's reading decides the step.
+use Rattle.std.proofs.Common.{Ok}
 use Prim.Native.Nat.{ℕ}
 use mathlib.Core.Path.{◌≡◌, sym, ap, ◌∙◌}
 use mathlib.Core.Bool.{Bool, false}
@@ -12,7 +13,6 @@ use Rattle.grammar.specs.Reader.{by, header_step}
 use Rattle.grammar.specs.declared.SliceRule.{SliceRule}
 use Rattle.grammar.specs.declared.State.{State}
 use Rattle.grammar.specs.declared.State.TheVariants.{Head}
-use Rattle.grammar.specs.declared.Step.TheVariants.{Go}
 use Rattle.steps.proofs.header_step.Goals as goal
 use Rattle.steps.proofs.header_step.Goals.{After-sequence_header}
 
@@ -28,7 +28,7 @@ same_rule h tested rows p q = λ i. record { tested = p i; rows = q i }
 
 pub returns-in-Header : goal.returns-in-Header
 unfolding header_gives
-returns-in-Header c = ap (λ (r : SliceRule). Go (Head r false)) (same_rule c.in-Header.h _ _ c.slices_tested.ensures c.macroblock_rows.ensures) ∙ given (goal.at.returns-in-Header c).After-sequence_header c.in-Header.is
+returns-in-Header c = ap (λ (r : SliceRule). Ok (Head r false)) (same_rule c.in-Header.h _ _ c.slices_tested.ensures c.macroblock_rows.ensures) ∙ given (goal.at.returns-in-Header c).After-sequence_header c.in-Header.is
 
 pub returns-in-Refused : goal.returns-in-Refused
 unfolding header_gives

@@ -1,4 +1,5 @@
 -- Each table has one kind; where the match comes to its last arm, the kind is neither.
+use Rattle.std.proofs.Common.{Err}
 use mathlib.Core.Path.{◌≡◌}
 use mathlib.Core.Bool.{Bool, true, false, cond}
 use Rattle.startcode.specs.declared.Kind.{Kind}
@@ -7,12 +8,11 @@ use Rattle.grammar.specs.Grammar.{StreamUnit}
 use Rattle.grammar.specs.Reader.{same_kind, choose, table}
 use Rattle.grammar.specs.declared.State.TheVariants.{Start, Ended}
 use Rattle.grammar.specs.declared.Reason.TheVariants.{OutOfPlace}
-use Rattle.grammar.specs.declared.Step.TheVariants.{Stop}
 use Rattle.grammar.proofs.KindLaws.{other_kind}
 use Rattle.units.proofs.outside_groups.Goals as goal
 
 -- whichever table it is, the kind is not its own
-neither : (ended : Bool) (k : Kind) (u : StreamUnit) → same_kind k kind.SequenceHeader ≡ false → same_kind k kind.EditCode ≡ false → Stop OutOfPlace ≡ choose k (table (cond ended Ended Start) u)
+neither : (ended : Bool) (k : Kind) (u : StreamUnit) → same_kind k kind.SequenceHeader ≡ false → same_kind k kind.EditCode ≡ false → Err OutOfPlace ≡ choose k (table (cond ended Ended Start) u)
 neither true k u h e = rw e
 neither false k u h e = rw h
 

@@ -9,8 +9,7 @@ use Rattle.startcode.specs.declared.Kind.{Kind}
 use Rattle.bodies.specs.declared.Scope.{Scope}
 use Rattle.grammar.specs.Grammar.{StreamUnit}
 use Rattle.grammar.specs.Rows.{placed, trimmed, whole_body, row_length}
-use Rattle.grammar.specs.Reader.{choose, table, by_kind, step, scope_in}
-use Rattle.grammar.specs.declared.Step.{Step}
+use Rattle.grammar.specs.Reader.{Step, choose, table, by_kind, step, scope_in}
 use Rattle.units.specs.Reader.{next_of, unit_from}
 use Rattle.units.specs.declared.UnitAnswer.TheVariants as answer
 use Rattle.units.proofs.LengthLaws.{length_same}
@@ -34,11 +33,11 @@ module _ (t : After-in_state) where
       ap (λ (y : Step). next_of y t.args.end the_length)
       (sym e ∙ t.in_state.ensures ∙ ap (λ (o : Outcome Kind). by_kind o (λ k. choose k (table t.args.state u))) (sym is))
 
-pub returns-in-Go : goal.returns-in-Go
-returns-in-Go c = let b = (u (goal.at.returns-in-Go c).After-in_state).body in ap (λ (n : ℕ). answer.Next c.in-Go.next c.args.end n) (c.length_in.ensures ∙ ap (λ (p : Scope). length (cond (whole_body (done c.in-Is.kind) p b) b (trimmed b))) c.scope_in-scope.ensures ∙ length_same c.args.state c.in-Is.kind (u (goal.at.returns-in-Go c).After-in_state) (is (goal.at.returns-in-Go c).After-in_state)) ∙ answered (goal.at.returns-in-Go c).After-in_state c.in-Go.is
+pub returns-in-Ok : goal.returns-in-Ok
+returns-in-Ok c = let b = (u (goal.at.returns-in-Ok c).After-in_state).body in ap (λ (n : ℕ). answer.Next c.in-Ok.next c.args.end n) (c.length_in.ensures ∙ ap (λ (p : Scope). length (cond (whole_body (done c.in-Is.kind) p b) b (trimmed b))) c.scope_in-scope.ensures ∙ length_same c.args.state c.in-Is.kind (u (goal.at.returns-in-Ok c).After-in_state) (is (goal.at.returns-in-Ok c).After-in_state)) ∙ answered (goal.at.returns-in-Ok c).After-in_state c.in-Ok.is
 
-pub returns-in-Stop : goal.returns-in-Stop
-returns-in-Stop c = answered (goal.at.returns-in-Stop c).After-in_state c.in-Stop.is
+pub returns-in-Err : goal.returns-in-Err
+returns-in-Err c = answered (goal.at.returns-in-Err c).After-in_state c.in-Err.is
 
 pub returns-in-Unknown : goal.returns-in-Unknown
 unfolding step
