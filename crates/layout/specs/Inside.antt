@@ -1,5 +1,5 @@
 -- What the private functions promise one another; no part of document 01.
-use Rattle.std.specs.Prelude.{ℕ, ◌+◌, List, [], ◌∷◌, Ok, Err}
+use Rattle.std.specs.Prelude.{ℕ, ◌+◌, List, [], ◌∷◌, Ok}
 use Rattle.answers.specs.Results.{◌>>=◌}
 use Rattle.bits.specs.Bits.{read_at}
 use Rattle.layout.specs.Layouts.{width_of, rule_of}

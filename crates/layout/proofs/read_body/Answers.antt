@@ -9,11 +9,11 @@ use lib.ListN.{length, take, length-take}
 use Rattle.answers.specs.Results.{map_ok}
 use Rattle.bits.specs.Bits.{bits_of}
 use Rattle.layout.specs.Layouts.{fields, least_bytes}
-use Rattle.layout.specs.Reader.{Verdict, Reading, ◌>>◌, cross, ended, both, reading}
+use Rattle.layout.specs.Reader.{Verdict, ◌>>◌, cross, ended, both, reading}
 use Rattle.layout.specs.Inside.{taken_from}
 use Rattle.layout.specs.declared.Layout.{Layout}
 use Rattle.layout.specs.declared.Field.{Field}
-use Rattle.layout.proofs.JudgeLaws.{reading_short, both_says}
+use Rattle.layout.proofs.JudgeLaws.{reading_short}
 use Rattle.layout.proofs.TakenLaws.{across, reading_taken, reading_judged, taken_length}
 use Rattle.layout.proofs.read_body.Goals as goal
 use Rattle.layout.proofs.read_body.Goals.{In_ok-values, After-judge_body}

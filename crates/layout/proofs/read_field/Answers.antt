@@ -4,8 +4,7 @@ use Prim.Native.Nat.{ℕ, ◌+◌, ◌≤◌}
 use mathlib.Core.Path.{◌≡◌, sym, ap, ◌∙◌}
 use mathlib.Core.List.{List}
 use borrow.Author.Rules.{rules}
-use Rattle.bits.specs.Bits.{bits_of, payload, read_at, read_within}
-use Rattle.bits.specs.declared.Read.{Read}
+use Rattle.bits.specs.Bits.{bits_of, payload, read_at}
 use Rattle.bits.specs.declared.Read.TheVariants.{Value}
 use Rattle.bits.proofs.BitLaws.{within_value, within_missing, never_wide}
 use Rattle.layout.specs.Layouts.{width_of, rule_of}

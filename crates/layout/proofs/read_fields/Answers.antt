@@ -1,22 +1,21 @@
 -- The values that are taken, and those that are still to be taken, are the body's.
-use Rattle.std.proofs.Common.{Ok, Err}
+use Rattle.std.proofs.Common.{Err}
 use Prim.Native.Nat.{ℕ, ◌+◌, ◌≤◌, ◌<◌}
 use mathlib.Core.Path.{◌≡◌, refl, sym, ap, subst, ◌∙◌}
 use mathlib.Core.List.{List, ◌∷◌}
 use native.Mathlib.Omega.{arith}
 use borrow.Author.Rules.{rules}
-use lib.ListN.{length, get_or, take, drop, set, length-set, drop_of_length-le}
+use lib.ListN.{length, get_or, take, drop, length-set, drop_of_length-le}
 use Rattle.answers.specs.Results.{map_ok}
 use Rattle.bits.specs.Bits.{bits_of}
 use Rattle.bits.specs.Lists.{All}
 use Rattle.bits.proofs.ListLaws.{at_head, all_drop}
 use Rattle.layout.specs.Layouts.{field, width_of, fields, bit_count}
-use Rattle.layout.specs.Inside.{taken_from}
 use Rattle.layout.specs.declared.Name.TheVariants.{Profile}
 use Rattle.layout.specs.declared.Rule.TheVariants.{Any}
 use Rattle.layout.specs.declared.Field.{Field}
 use Rattle.layout.proofs.LayoutLaws.{table, rest_count}
-use Rattle.layout.proofs.ReadingLaws.{onto, onto_none, taken_step, taken_stop, taken_end}
+use Rattle.layout.proofs.ReadingLaws.{onto_none, taken_step, taken_stop, taken_end}
 use Rattle.layout.proofs.read_fields.Goals as goal
 use Rattle.layout.proofs.read_fields.Goals.{In-loop-i}
 

@@ -1,5 +1,5 @@
 -- The values that are taken, and those that are still to be taken, are the body's.
-use Prim.Native.Nat.{◌+◌, ◌≤◌}
+use Prim.Native.Nat.{◌+◌}
 use mathlib.Core.Path.{◌≡◌}
 use lib.ListN.{length, take, drop}
 use Rattle.bits.specs.Bits.{bits_of}
