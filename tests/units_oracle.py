@@ -13,8 +13,6 @@ A refusal is its number and its bit, - where it carries none.
 A state is 0 before all, 1 in a head, 2 in a picture, 3 after a slice, 4 after B1, 5 after B7; 1 to 3 with the slices' rule
 (tested, rows) and whether a display extension was read (1) or the least slice that may follow (3).
 """
-import re
-
 from questions import Questions, bits_of, hexed
 
 ASKED = Questions("run_units")
@@ -125,7 +123,7 @@ def answer(read, *asked):
 
 
 def bodies():
-    for kind, lent, place, byte in ASKED.calls("body"):
+    for kind, lent, place, byte in ASKED.table("BODIES"):
         body = bytearray(ASKED.constant(("HEADER", "PLAIN", "COLOURED", "COPYRIGHT")[kind]))
         body[place] = byte
         body = bytes(body[:lent])
@@ -198,17 +196,16 @@ def unit(stream, state, at):
     return [end, len(body) if whole else len(body.rstrip(b"\0")), *after]
 
 
-# the program's function `state`; no stream leads to the last, in which slice 5 breaks both order and row
+# the program's STATES; no stream leads to the last, in which slice 5 breaks both order and row
 STATES = [[START], [HEAD, 1, 68, 0], [HEAD, 1, 68, 1], [PICTURE, 1, 68, 0], [SLICES, 1, 68, 6], [SLICES, 0, 176, 68], [ENDED], [CLOSED],
           [SLICES, 1, 5, 6]]
 
 
 def units():
-    places = [int(n) for n in re.findall(r"^    unit\(rt, k, (\d+)\)(?:\?;)?$", ASKED.source, re.M)]
-    for k, in ASKED.calls("units_in"):
-        for at in places:
+    for k, state in enumerate(STATES):
+        for at in ASKED.words("PLACES"):
             try:
-                said = unit(ASKED.constant("STREAM"), STATES[k], at) or ["none"]
+                said = unit(ASKED.constant("STREAM"), state, at) or ["none"]
             except Refused as why:
                 said = ["none", *why.args]
             print("unit", k, at, *said)

@@ -15,7 +15,7 @@ ghost use Rattle.aec.specs.declared.Prediction.{Prediction};
 ghost use Rattle.aec.specs.Inside.{itself, of_bit, SplitRanges, Quickly, head_of, Predicts};
 ghost use Rattle.aec.specs.Inside.{bin_by, own_prediction, good_pair, pair_prediction, update_pair};
 
-use bits::{Bit, Read};
+use bits::{Payload, ReadError};
 use contexts::Context;
 use renorm::Renormalised;
 
@@ -156,12 +156,13 @@ fn take_bit(bytes: &[u8], count: usize, value: u32, place: usize) -> Result<Doub
     ensures { says of_bit result ≡ double_of (drop place (payload bytes.now count)) value place }
 {
     let twice = value * 2;
-    match bits::read_bit(bytes, count, place) {
-        Bit::Is(bit) => Ok(Doubled {
+    let bits = Payload { bytes, count };
+    match bits.bit(place) {
+        Some(bit) => Ok(Doubled {
             number: twice + bit,
             next: place + 1,
         }),
-        Bit::Missing => Err(Refusal::PayloadOut),
+        None => Err(Refusal::PayloadOut),
     }
 }
 
@@ -229,13 +230,14 @@ pub fn start(bytes: &[u8], count: usize) -> Result<State, StartError>
     if LIMIT < bytes.len() {
         return Err(StartError::TooLong);
     }
-    match bits::read_bits(bytes, count, 0, 9) {
-        Read::Value(value) => match settle(bytes, count, 255, value, 9) {
+    let bits = Payload { bytes, count };
+    match bits.read(0, 9) {
+        Ok(value) => match settle(bytes, count, 255, value, 9) {
             Ok(state) => Ok(state),
             Err(_) => Err(StartError::PayloadOut(1)), // it wants bits one by one, and refuses for nothing else
         },
-        Read::Missing(missing) => Err(StartError::PayloadOut(missing)),
-        Read::TooWide => Err(StartError::TooLong), // never: nine bits are asked for
+        Err(ReadError::Missing(missing)) => Err(StartError::PayloadOut(missing)),
+        Err(ReadError::TooWide) => Err(StartError::TooLong), // never: nine bits are asked for
     }
 }
 

@@ -1,21 +1,20 @@
 -- The laws of bits and of the read, for any width.
-use Rattle.std.proofs.Common.{Result, Ok, Err}
+use Rattle.std.specs.Prelude.{Option, Some, None, Result, Ok, Err}
 use Prim.Native.Nat.{ℕ, zero, suc, ◌+◌, ◌-◌, ◌*◌, ◌/◌, ◌%◌, ◌^◌, ◌≤◌, ◌<◌, min}
 use mathlib.Core.Path.{◌≡◌, refl, sym, ap, ◌∙◌}
-use mathlib.Core.List.{List, [], ◌∷◌, ◌++◌}
+use mathlib.Core.List.{List, [], ◌∷◌, ◌++◌, append_assoc}
 use mathlib.Core.Logic.{◌⊎◌, inl, inr}
 use native.Mathlib.Omega.{arith}
 use native.Mathlib.Nat.{zero-add, suc-add, mod-lt, pow-suc, pow-succ', div-one, div-div-eq-div-mul}
 use borrow.Author.Tests.{le-leb, lt-leb}
 use lib.ListN.{length, get_or, take, drop, replicate, length-append, length-take, length-drop, drop_of_length-le, get_or-append}
 use lib.Pow.{shr-shr, field, mod-mod-pow}
-use lib.Seq.{drop-drop, get_or-take, get_or-append-add}
+use lib.Seq.{drop-drop, drop-nil, drop-append-add, take-nil, take-append-add, get_or-take, get_or-append-add}
 use Rattle.bits.specs.Lists.{All}
 use Rattle.answers.proofs.ResultLaws.{not_ok, not_err, ok_same, err_same}
 use Rattle.bits.specs.Bits.{bits_in, bits_of, payload, bit_at, read_on, read_at, read_says, read_within}
-use Rattle.bits.specs.declared.Bit.{Bit}
-use Rattle.bits.specs.declared.Bit.TheVariants as bit
-use Rattle.bits.specs.declared.Read.TheVariants as read
+use Rattle.bits.specs.declared.ReadError.{ReadError}
+use Rattle.bits.specs.declared.ReadError.TheVariants.{Missing, TooWide}
 use Rattle.bits.proofs.ListLaws.{all_append, all_drop, all_take, at_head}
 
 -- ── the bits of numbers ──
@@ -65,6 +64,28 @@ pub length_bits : (s : List ℕ) → length (bits_of s) ≡ length s * 8
 unfolding bits_of
 length_bits [] = refl
 length_bits (b ∷ s) = let h = length_bits s in let k = length_in 8 b in rw length-append (omega arith)
+
+pub bits_append : (a b : List ℕ) → bits_of (a ++ b) ≡ bits_of a ++ bits_of b
+unfolding bits_of
+bits_append [] b = refl
+bits_append (x ∷ a) b = rw (bits_append a b, append_assoc)
+
+-- the bits of bytes from one on, and of so many of them
+pub bits_drop : (n : ℕ) (s : List ℕ) → bits_of (drop n s) ≡ drop (n * 8) (bits_of s)
+unfolding bits_of
+bits_drop zero s = refl
+bits_drop (suc n) [] = rw drop-nil
+bits_drop (suc n) (b ∷ s) =
+    let e : suc n * 8 ≡ length (bits_in 8 b) + n * 8 = let l = length_in 8 b in omega arith in
+    bits_drop n s ∙ rw (e, drop-append-add (bits_in 8 b) (bits_of s) (n * 8))
+
+pub bits_take : (n : ℕ) (s : List ℕ) → bits_of (take n s) ≡ take (n * 8) (bits_of s)
+unfolding bits_of
+bits_take zero s = refl
+bits_take (suc n) [] = rw take-nil
+bits_take (suc n) (b ∷ s) =
+    let e : suc n * 8 ≡ length (bits_in 8 b) + n * 8 = let l = length_in 8 b in omega arith in
+    rw (e, take-append-add (bits_in 8 b) (bits_of s) (n * 8), bits_take n s)
 
 bit_of_list : (s : List ℕ) (q r : ℕ) → r < 8 → q < length s → get_or (bits_of s) (q * 8 + r) 0 ≡ get_or s q 0 / 2 ^ (7 - r) % 2
 unfolding bits_of
@@ -128,9 +149,9 @@ payload_bit s count place h k =
 -- ── one bit ──
 
 -- the bit at a place heads what is left there
-heads : List ℕ → Bit
-heads [] = bit.Missing
-heads (b ∷ t) = bit.Is b
+heads : List ℕ → Option ℕ
+heads [] = None
+heads (b ∷ t) = Some b
 
 bit_heads : (l : List ℕ) (place : ℕ) → bit_at l place ≡ heads (drop place l)
 unfolding bit_at heads
@@ -139,16 +160,16 @@ bit_heads [] (suc place) = refl
 bit_heads (b ∷ l) zero = refl
 bit_heads (b ∷ l) (suc place) = bit_heads l place
 
-pub bit_here : (l : List ℕ) (place b : ℕ) (t : List ℕ) → drop place l ≡ b ∷ t → bit.Is b ≡ bit_at l place
+pub bit_here : (l : List ℕ) (place b : ℕ) (t : List ℕ) → drop place l ≡ b ∷ t → Some b ≡ bit_at l place
 unfolding heads
 bit_here l place b t e = sym (bit_heads l place ∙ ap heads e)
 
-pub bit_none : (l : List ℕ) (place : ℕ) → drop place l ≡ [] → bit.Missing ≡ bit_at l place
+pub bit_none : (l : List ℕ) (place : ℕ) → drop place l ≡ [] → None ≡ bit_at l place
 unfolding heads
 bit_none l place e = sym (bit_heads l place ∙ ap heads e)
 
 -- the other way: what a bit that was read, or was missing, says of what is left
-head_is : (l : List ℕ) (place b : ℕ) (m : List ℕ) → drop place l ≡ m → heads m ≡ bit.Is b → drop place l ≡ b ∷ drop (place + 1) l
+head_is : (l : List ℕ) (place b : ℕ) (m : List ℕ) → drop place l ≡ m → heads m ≡ Some b → drop place l ≡ b ∷ drop (place + 1) l
 unfolding heads
 head_is l place b [] e r = let z : ◌≡◌ {A = ℕ} 0 1 = cc in absurd (omega arith)
 head_is l place b (x ∷ t) e r =
@@ -156,15 +177,15 @@ head_is l place b (x ∷ t) e r =
     let d : drop (place + 1) l ≡ t = sym (drop-drop 1 place l) ∙ ap (drop 1) e in
     e ∙ rw (y, d)
 
-pub bit_read : (l : List ℕ) (place b : ℕ) → bit_at l place ≡ bit.Is b → drop place l ≡ b ∷ drop (place + 1) l
+pub bit_read : (l : List ℕ) (place b : ℕ) → bit_at l place ≡ Some b → drop place l ≡ b ∷ drop (place + 1) l
 bit_read l place b r = head_is l place b (drop place l) refl (sym (bit_heads l place) ∙ r)
 
-head_none : (m : List ℕ) → heads m ≡ bit.Missing → m ≡ []
+head_none : (m : List ℕ) → heads m ≡ None → m ≡ []
 unfolding heads
 head_none [] r = refl
 head_none (x ∷ t) r = let z : ◌≡◌ {A = ℕ} 0 1 = cc in absurd (omega arith)
 
-pub bit_missing : (l : List ℕ) (place : ℕ) → bit_at l place ≡ bit.Missing → drop place l ≡ []
+pub bit_missing : (l : List ℕ) (place : ℕ) → bit_at l place ≡ None → drop place l ≡ []
 bit_missing l place r = head_none (drop place l) (sym (bit_heads l place) ∙ r)
 
 pub bit_small : (l : List ℕ) (place b : ℕ) (t : List ℕ) → All Binary l → drop place l ≡ b ∷ t → b < 2
@@ -214,7 +235,7 @@ lacks_read acc (suc w) (b ∷ l) h =
 
 -- ── within 32 bits ──
 
-pub within_wide : (l : List ℕ) (place width : ℕ) → 32 < width → read_within l place width ≡ read.TooWide
+pub within_wide : (l : List ℕ) (place width : ℕ) → 32 < width → read_within l place width ≡ Err TooWide
 unfolding read_within
 within_wide l place width h = simp (lt-leb width 32 h)
 
@@ -229,16 +250,24 @@ says_same (Ok m) (Err n) e = let z : ◌≡◌ {A = ℕ} 0 1 = cc in absurd (ome
 says_same (Err m) (Ok n) e = let z : ◌≡◌ {A = ℕ} 0 1 = cc in absurd (omega arith)
 says_same (Err m) (Err n) e = let i : m ≡ n = cc in ap Err i
 
-pub says_wide : {P : Type 0} (r : Result ℕ ℕ) → read_says r ≡ read.TooWide → P
+-- a refusal says how many bits are missing
+pub says_err : (r : Result ℕ ℕ) (e : ReadError) → read_says r ≡ Err e → (m : ℕ) × (r ≡ Err m) × (e ≡ Missing m)
+says_err (Ok v) e h = not_err h
+says_err (Err m) e h = (m, refl, sym (err_same h))
+
+pub says_wide : {P : Type 0} (r : Result ℕ ℕ) → read_says r ≡ Err TooWide → P
 says_wide (Ok v) e = let z : ◌≡◌ {A = ℕ} 0 1 = cc in absurd (omega arith)
 says_wide (Err n) e = let z : ◌≡◌ {A = ℕ} 0 1 = cc in absurd (omega arith)
 
-module _ (l : List ℕ) (place width : ℕ) (h : width ≤ 32) where
-  pub within_value : (n : ℕ) → read_within l place width ≡ read.Value n → read_at l place width ≡ Ok n
-  within_value n e = says_same (read_at l place width) (Ok n) (sym (within_is l place width h) ∙ e)
+module _ (l : List ℕ) (place width : ℕ) (narrow : width ≤ 32) where
+  pub within_value : (n : ℕ) → read_within l place width ≡ Ok n → read_at l place width ≡ Ok n
+  within_value n e = says_same (read_at l place width) (Ok n) (sym (within_is l place width narrow) ∙ e)
 
-  pub within_missing : (m : ℕ) → read_within l place width ≡ read.Missing m → read_at l place width ≡ Err m
-  within_missing m e = says_same (read_at l place width) (Err m) (sym (within_is l place width h) ∙ e)
+  pub within_missing : (m : ℕ) → read_within l place width ≡ Err (Missing m) → read_at l place width ≡ Err m
+  within_missing m e = says_same (read_at l place width) (Err m) (sym (within_is l place width narrow) ∙ e)
 
-  pub never_wide : {P : Type 0} → read_within l place width ≡ read.TooWide → P
-  never_wide e = says_wide (read_at l place width) (sym (within_is l place width h) ∙ e)
+  pub within_err : (e : ReadError) → read_within l place width ≡ Err e → (m : ℕ) × (read_at l place width ≡ Err m) × (e ≡ Missing m)
+  within_err e h = says_err (read_at l place width) e (sym (within_is l place width narrow) ∙ h)
+
+  pub never_wide : {P : Type 0} → read_within l place width ≡ Err TooWide → P
+  never_wide e = says_wide (read_at l place width) (sym (within_is l place width narrow) ∙ e)

@@ -1,54 +1,41 @@
 -- The laws of bits read as whole bytes, of which those at either end are then cut off.
 use Rattle.std.proofs.Common.{Ok}
-use Prim.Native.Nat.{ℕ, zero, suc, ◌+◌, ◌-◌, ◌*◌, ◌/◌, ◌%◌, ◌^◌, ◌≤◌, ◌<◌}
+use Prim.Native.Nat.{ℕ, ◌+◌, ◌-◌, ◌*◌, ◌/◌, ◌%◌, ◌^◌, ◌≤◌, ◌<◌}
 use mathlib.Core.Path.{◌≡◌, sym, ap, ◌∙◌}
-use mathlib.Core.List.{List, [], ◌∷◌, ◌++◌}
+use mathlib.Core.List.{List, [], ◌∷◌, ◌++◌, append-nil}
 use native.Mathlib.Omega.{arith}
 use native.Mathlib.Nat.{mod-lt}
-use lib.ListN.{length, get_or, take, drop}
+use native.Mathlib.Numerals.{add-one}
+use lib.ListN.{length, get_or, take, drop, length-take, length-drop}
 use lib.Pow.{pow_pos, pow-add}
-use lib.Seq.{take-add, take_at, take-take, drop_at, drop-append-add, drop-drop}
+use lib.Seq.{take-suc, take_at, take-take, drop_at, drop-drop}
 use Rattle.bits.specs.Bits.{bits_in, bits_of, payload, read_at}
-use Rattle.bits.proofs.BitLaws.{length_in, in_append, in_low}
+use Rattle.bits.proofs.BitLaws.{length_in, in_append, in_low, bits_append, bits_drop, bits_take}
 use Rattle.bits.proofs.ReadLaws.{value_exactly}
 use Rattle.bits.proofs.ListLaws.{drop_take}
 
--- the bits of the byte at q head what is left there
-byte_bits : (s : List ℕ) (q : ℕ) → q < length s → drop (q * 8) (bits_of s) ≡ bits_in 8 (get_or s q 0) ++ drop ((q + 1) * 8) (bits_of s)
-unfolding bits_of
-byte_bits [] q h = absurd (omega arith)
-byte_bits (b ∷ s) zero h = rw (drop_at (bits_in 8 b) (bits_of s) 8 (length_in 8 b))
-byte_bits (b ∷ s) (suc q) h =
-    let e : suc q * 8 ≡ length (bits_in 8 b) + q * 8 = let l = length_in 8 b in omega arith in
-    let f : (suc q + 1) * 8 ≡ length (bits_in 8 b) + (q + 1) * 8 = let l = length_in 8 b in omega arith in
-    let d = drop-append-add (bits_in 8 b) (bits_of s) in
-    rw (e, f, d (q * 8), d ((q + 1) * 8)) (byte_bits s q (omega arith))
-
-pub no_bits : (l : List ℕ) (n k : ℕ) → k ≡ 0 → take k l ≡ bits_in k n
-unfolding bits_in
-no_bits l n k h = rw h
-
 -- one byte more
-pub byte_more : (s : List ℕ) (from at value x : ℕ) → from ≤ at → at < length s → x ≡ get_or s at 0 → x < 256 →
-    take ((at - from) * 8) (drop (from * 8) (bits_of s)) ≡ bits_in ((at - from) * 8) value →
-    take ((at + 1 - from) * 8) (drop (from * 8) (bits_of s)) ≡ bits_in ((at + 1 - from) * 8) (value * 256 + x)
-byte_more s from at value x h k byte small e =
-    let n = (at - from) * 8 in
-    let l = drop (from * 8) (bits_of s) in
-    let m : (at + 1 - from) * 8 ≡ n + 8 = omega arith in
-    let p : from * 8 + n ≡ at * 8 = omega arith in
-    let d : drop n l ≡ bits_in 8 x ++ drop ((at + 1) * 8) (bits_of s) = drop-drop n (from * 8) (bits_of s) ∙ rw (p, byte) (byte_bits s at k) in
-    let t : take 8 (drop n l) ≡ bits_in 8 x = rw d (take_at (bits_in 8 x) _ 8 (length_in 8 x)) in
+pub byte_more : (s : List ℕ) (i value x : ℕ) → i < length s → x ≡ get_or s i 0 → x < 256 → bits_of (take i s) ≡ bits_in (i * 8) value →
+    bits_of (take (i + 1) s) ≡ bits_in ((i + 1) * 8) (value * 256 + x)
+unfolding bits_of
+byte_more s i value x k byte small e =
+    let m : (i + 1) * 8 ≡ i * 8 + 8 = omega arith in
     let high : (value * 256 + x) / 256 ≡ value = omega arith in
     let low : (value * 256 + x) % 256 ≡ x = omega arith in
     let b : bits_in 8 (value * 256 + x) ≡ bits_in 8 x = sym (in_low 8 (value * 256 + x)) ∙ ap (bits_in 8) low in
-    let i : bits_in (n + 8) (value * 256 + x) ≡ bits_in n value ++ bits_in 8 x = in_append n 8 (value * 256 + x) ∙ rw (high, b) in
-    rw (m, i) (take-add n 8 l ∙ rw (e, t))
+    let t : take (i + 1) s ≡ take i s ++ (x ∷ []) = rw (add-one, take-suc s i 0 k, byte) in
+    rw (t, bits_append (take i s) (x ∷ []), append-nil, e, m) (sym (in_append (i * 8) 8 (value * 256 + x) ∙ rw (high, b)))
 
-pub byte_fits : (from at value x : ℕ) → from ≤ at → value < 2 ^ ((at - from) * 8) → x < 256 → value * 256 + x < 2 ^ ((at + 1 - from) * 8)
-byte_fits from at value x h v small =
-    let m : (at + 1 - from) * 8 ≡ (at - from) * 8 + 8 = omega arith in
-    rw (m, pow-add 2 ((at - from) * 8) 8) (omega arith)
+-- so that five fit
+pub byte_fits : (i value x : ℕ) → value < 2 ^ (i * 8) → x < 256 → value * 256 + x < 2 ^ ((i + 1) * 8)
+byte_fits i value x v small = let m : (i + 1) * 8 ≡ i * 8 + 8 = omega arith in rw (m, pow-add 2 (i * 8) 8) (omega arith)
+
+-- the bits of a part of the bytes
+pub part_bits : (s : List ℕ) (from n value : ℕ) → from + n ≤ length s →
+    bits_of (take n (drop from s)) ≡ bits_in (length (take n (drop from s)) * 8) value → take (n * 8) (drop (from * 8) (bits_of s)) ≡ bits_in (n * 8) value
+part_bits s from n value h e =
+    let l : length (take n (drop from s)) ≡ n = let d = length-drop from s in rw length-take (omega arith) in
+    rw (← bits_drop from s, ← bits_take n (drop from s)) (rw l at e)
 
 -- bits cut off at either end
 pub cut_bits : (l : List ℕ) (skip width after value : ℕ) → take (skip + (width + after)) l ≡ bits_in (skip + (width + after)) value →

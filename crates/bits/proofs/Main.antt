@@ -1,5 +1,5 @@
 -- What is proved of bits beyond the contracts of the functions.
-use Rattle.std.proofs.Common.{Ok, Err}
+use Rattle.std.specs.Prelude.{None, Ok, Err}
 use Prim.Native.Nat.{ℕ, ◌-◌, ◌^◌, ◌<◌}
 use mathlib.Core.Path.{◌≡◌}
 use mathlib.Core.Logic.{◌↔◌}
@@ -7,7 +7,6 @@ use mathlib.Core.List.{List, ◌++◌}
 use lib.ListN.{length, take, drop}
 use Rattle.bits.specs.Lists.{All}
 use Rattle.bits.specs.Bits.{bits_in, payload, bit_at, read_at, pack}
-use Rattle.bits.specs.declared.Bit.TheVariants as bit
 use Rattle.bits.proofs.BitLaws.{Binary}
 use Rattle.bits.proofs.PackingLaws.{packed_payload}
 use Rattle.bits.proofs.ReadLaws as proof
@@ -24,7 +23,7 @@ pub missing_exactly : (bits : List ℕ) (place width m : ℕ) →
 missing_exactly = proof.missing_exactly
 
 -- A single bit is missing as 1.
-pub bit_missing_one : (bits : List ℕ) (place : ℕ) → (bit_at bits place ≡ bit.Missing) ↔ (read_at bits place 1 ≡ Err 1)
+pub bit_missing_one : (bits : List ℕ) (place : ℕ) → (bit_at bits place ≡ None) ↔ (read_at bits place 1 ≡ Err 1)
 bit_missing_one = proof.bit_missing_one
 
 -- What is packed is read back as it was: the filling after it is no part of the payload.

@@ -13,7 +13,7 @@ use lib.Seq.{take_at, take-append-add, take-append-le}
 use Rattle.bits.specs.Lists.{All}
 use Rattle.bits.specs.Bits.{bits_in, bits_of, payload, pack_on, pack}
 use Rattle.bits.proofs.TestLaws.{by_test}
-use Rattle.bits.proofs.BitLaws.{Binary, length_in, in_append, in_snoc}
+use Rattle.bits.proofs.BitLaws.{Binary, bits_append, length_in, in_append, in_snoc}
 
 -- ── one bit more ──
 
@@ -122,11 +122,6 @@ unpacks (b ∷ l) value k h a =
     let n : k + suc (length l) ≡ (k + 1) + length l = omega arith in
     let m = eqb-false k 7 f in
     rw (pack_more value k b l m, n) (unpacks l (value * 2 + b) (k + 1) (omega arith) a.1 ∙ rw add-one more))
-
-bits_append : (a b : List ℕ) → bits_of (a ++ b) ≡ bits_of a ++ bits_of b
-unfolding bits_of
-bits_append [] b = refl
-bits_append (x ∷ a) b = rw (bits_append a b, append_assoc)
 
 -- what is packed is read back as it was, whatever bytes follow
 pub packed_payload : (l rest : List ℕ) → All Binary l → payload (pack l ++ rest) (length l) ≡ l

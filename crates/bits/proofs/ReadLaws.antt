@@ -1,5 +1,5 @@
 -- When the one read succeeds, and when bits are missing.
-use Rattle.std.proofs.Common.{Result, Ok, Err}
+use Rattle.std.specs.Prelude.{None, Result, Ok, Err}
 use Prim.Native.Nat.{ℕ, ◌-◌, ◌^◌, ◌≤◌, ◌<◌}
 use mathlib.Core.Path.{◌≡◌, refl, sym, ap, ◌∙◌}
 use mathlib.Core.Logic.{◌↔◌}
@@ -11,7 +11,6 @@ use lib.Pow.{pow_pos}
 use Rattle.answers.specs.Answers.{Outcome, done}
 use Rattle.answers.proofs.ResultLaws.{not_err}
 use Rattle.bits.specs.Bits.{bits_in, payload, bit_at, read_on, read_at, read_or}
-use Rattle.bits.specs.declared.Bit.TheVariants as bit
 use Rattle.bits.proofs.ListLaws.{all_drop}
 use Rattle.bits.proofs.BitLaws.{Binary, all_payload, bit_none, bit_missing, read_writes, reads_written, read_lacks, lacks_read}
 
@@ -49,7 +48,7 @@ read_there bits place width h = by (read_at bits place width) refl
     by (Err m) e = let few = ((missing_exactly bits place width m).0 e).0 in absurd (omega arith)
 
 -- a single bit
-pub bit_missing_one : (bits : List ℕ) (place : ℕ) → (bit_at bits place ≡ bit.Missing) ↔ (read_at bits place 1 ≡ Err 1)
+pub bit_missing_one : (bits : List ℕ) (place : ℕ) → (bit_at bits place ≡ None) ↔ (read_at bits place 1 ≡ Err 1)
 unfolding read_at read_on
 bit_missing_one bits place = (λ e. rw (bit_missing bits place e), λ e. sym (bit_none bits place (none (drop place bits) e)))
   where

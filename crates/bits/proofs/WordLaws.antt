@@ -1,5 +1,5 @@
 -- The laws of many bits at once: those from a place on as the last bits of a number.
-use Rattle.std.proofs.Common.{Result, Ok, Err}
+use Rattle.std.specs.Prelude.{Option, Some, None, Result, Ok, Err}
 use Prim.Native.Nat.{ℕ, ◌+◌, ◌-◌, ◌/◌, ◌%◌, ◌^◌, ◌≤◌, ◌<◌}
 use mathlib.Core.Path.{◌≡◌, refl, sym, ap, ◌∙◌}
 use mathlib.Core.List.{List, ◌∷◌}
@@ -11,7 +11,7 @@ use lib.ListN.{length, get_or, take, drop, length-take, length-drop}
 use lib.Seq.{drop-drop, get_or-take, get_or-drop}
 use Rattle.bits.specs.Bits.{bits_in, payload, read_at}
 use Rattle.bits.specs.Reader.{word_says, word_at}
-use Rattle.bits.specs.declared.Word.TheVariants as word
+use Rattle.bits.specs.declared.Word.{Word}
 use Rattle.bits.proofs.ListLaws.{at_head}
 use Rattle.bits.proofs.TestLaws.{by_test}
 use Rattle.bits.proofs.BitLaws.{length_in, bit_in, in_low}
@@ -49,17 +49,20 @@ ahead_bit bits place m v i a h =
 
 -- ── what `read_word` answers ──
 
-pub word_few : (bits : List ℕ) (place : ℕ) → length bits - place < 32 → word_at bits place ≡ word.Few
+pub word_few : (bits : List ℕ) (place : ℕ) → length bits - place < 32 → word_at bits place ≡ None
 unfolding word_at
 word_few bits place h = simp (lt-leb 32 (length bits - place) h)
 
 pub word_is : (bits : List ℕ) (place v : ℕ) → 32 ≤ length bits - place → read_at bits place (32 - place % 8) ≡ Ok v →
-    word_at bits place ≡ word.Bits v (32 - place % 8)
+    word_at bits place ≡ Some (record { bits = v; width = 32 - place % 8 })
 unfolding word_at
 word_is bits place v h e = simp (le-leb 32 (length bits - place) h, e)
 
+some_same : {A : Type 0} {a b : A} → ◌≡◌ {A = Option A} (Some a) (Some b) → a ≡ b
+some_same e = cc
+
 -- where it answers bits, they are ahead
-pub word_ahead : (s : List ℕ) (count place v w : ℕ) → word_at (payload s count) place ≡ word.Bits v w →
+pub word_ahead : (s : List ℕ) (count place v w : ℕ) → word_at (payload s count) place ≡ Some (record { bits = v; width = w }) →
     (w ≡ 32 - place % 8) × (v < 2 ^ w) × Ahead (payload s count) place w v
 unfolding word_at
 word_ahead s count place v w e =
@@ -67,14 +70,15 @@ word_ahead s count place v w e =
     (λ t. by (read_at (payload s count) place (32 - place % 8)) refl (rw t at e))
     (λ f. none (rw f at e))
   where
-    none : {P : Type 0} → word.Few ≡ word.Bits v w → P
+    none : {P : Type 0} → ◌≡◌ {A = Option Word} None (Some (record { bits = v; width = w })) → P
     none d = let z : ◌≡◌ {A = ℕ} 0 1 = cc in absurd (omega arith)
 
-    by : (r : Result ℕ ℕ) → read_at (payload s count) place (32 - place % 8) ≡ r → word_says (32 - place % 8) r ≡ word.Bits v w →
+    by : (r : Result ℕ ℕ) → read_at (payload s count) place (32 - place % 8) ≡ r → word_says (32 - place % 8) r ≡ Some (record { bits = v; width = w }) →
         (w ≡ 32 - place % 8) × (v < 2 ^ w) × Ahead (payload s count) place w v
     by (Ok n) r d =
-        let same : n ≡ v = cc in
-        let wide : 32 - place % 8 ≡ w = cc in
+        let e : ◌≡◌ {A = Word} (record { bits = n; width = 32 - place % 8 }) (record { bits = v; width = w }) = some_same d in
+        let same : n ≡ v = ap (λ (x : Word). x.bits) e in
+        let wide : 32 - place % 8 ≡ w = ap (λ (x : Word). x.width) e in
         let x = (value_exactly s count place (32 - place % 8) n).0 r in
         rw (← wide, ← same) (refl, x.0, x.1)
     by (Err m) r d = none d

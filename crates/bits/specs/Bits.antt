@@ -1,9 +1,7 @@
 -- The bits of bytes, most significant first ("Layouts", "Escape removal"), the one read of them, and their packing.
-use Rattle.std.specs.Prelude.{ℕ, zero, suc, ◌+◌, ◌-◌, ◌*◌, ◌/◌, ◌%◌, ◌^◌, List, [], ◌∷◌, ◌++◌, cond, take, drop, leb, eqb, Result, Ok, Err}
-use Rattle.bits.specs.declared.Bit.{Bit}
-use Rattle.bits.specs.declared.Bit.TheVariants as bit
-use Rattle.bits.specs.declared.Read.{Read}
-use Rattle.bits.specs.declared.Read.TheVariants as read
+use Rattle.std.specs.Prelude.{ℕ, zero, suc, ◌+◌, ◌-◌, ◌*◌, ◌/◌, ◌%◌, ◌^◌, List, [], ◌∷◌, ◌++◌, cond, take, drop, leb, eqb, Option, Some, None, Result, Ok, Err}
+use Rattle.bits.specs.declared.ReadError.{ReadError}
+use Rattle.bits.specs.declared.ReadError.TheVariants.{Missing, TooWide}
 
 -- the last `width` bits of the number n, most significant first
 unfoldable pub bits_in : ℕ → ℕ → List ℕ
@@ -19,10 +17,10 @@ bits_of (byte ∷ bytes) = bits_in 8 byte ++ bits_of bytes
 abbrev pub payload : List ℕ → ℕ → List ℕ
 payload bytes count = take count (bits_of bytes)
 
--- the bit at a place: Missing where the list ends first
-unfoldable pub bit_at : List ℕ → ℕ → Bit
-bit_at [] place = bit.Missing
-bit_at (b ∷ bits) zero = bit.Is b
+-- the bit at a place: None where the list ends first
+unfoldable pub bit_at : List ℕ → ℕ → Option ℕ
+bit_at [] place = None
+bit_at (b ∷ bits) zero = Some b
 bit_at (b ∷ bits) (suc place) = bit_at bits place
 
 -- `width` bits from the head of a list, after bits that write `value`; where the list ends first, how many of them are missing
@@ -40,13 +38,13 @@ abbrev pub read_or : {A : Type 0} → (ℕ → A) → (ℕ → A) → Result ℕ
 read_or found lacks (Ok n) = found n
 read_or found lacks (Err m) = lacks m
 
-abbrev pub read_says : Result ℕ ℕ → Read
-read_says (Ok n) = read.Value n
-read_says (Err m) = read.Missing m
+abbrev pub read_says : Result ℕ ℕ → Result ℕ ReadError
+read_says (Ok n) = Ok n
+read_says (Err m) = Err (Missing m)
 
 -- A number of 32 bits holds no wider read: it is asked in error, and no refusal of document 01.
-unfoldable pub read_within : List ℕ → ℕ → ℕ → Read
-read_within bits place width = cond (leb width 32) (read_says (read_at bits place width)) read.TooWide
+unfoldable pub read_within : List ℕ → ℕ → ℕ → Result ℕ ReadError
+read_within bits place width = cond (leb width 32) (read_says (read_at bits place width)) (Err TooWide)
 
 -- bits packed into bytes, after `k` bits of a byte that write `value`; the last byte is filled with zeros
 unfoldable pub pack_on : ℕ → ℕ → List ℕ → List ℕ

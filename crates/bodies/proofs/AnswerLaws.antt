@@ -1,5 +1,6 @@
 -- The laws of answers: records, extensions by their number and colour bit.
 use Rattle.std.proofs.Common.{Ok, Err}
+use Rattle.std.specs.Prelude as std
 use Prim.Native.Nat.{ℕ, zero, suc, ◌≤◌, ◌<◌}
 use mathlib.Core.Path.{◌≡◌, refl, sym, ap, ◌∙◌}
 use mathlib.Core.List.{List, [], ◌∷◌}
@@ -11,7 +12,6 @@ use lib.Dec.{eqb, ltb}
 use lib.ListN.{length, get_or, take}
 use lib.Seq.{drop-cons}
 use Rattle.bits.specs.Bits.{bits_of, payload, bit_at}
-use Rattle.bits.specs.declared.Bit.{Bit}
 use Rattle.bits.proofs.TestLaws.{by_test}
 use Rattle.bits.proofs.BitLaws.{length_bits, all_bits, bit_here, bit_small}
 use Rattle.layout.specs.Layouts.{fields, least_bytes}
@@ -53,22 +53,22 @@ bit_within (suc n) place [] h = refl
 bit_within (suc n) zero (b ∷ l) h = refl
 bit_within (suc n) (suc place) (b ∷ l) h = bit_within n place l (omega arith)
 
--- the colour bit, as it is read
-pub colour_bit : (body : List ℕ) → bit_at (payload body 9) 8 ≡ bit_at (bits_of body) 8
-colour_bit body = bit_within 9 8 (bits_of body) (omega arith)
+-- bit 8 is one of the first nine
+pub bit_eight : (body : List ℕ) → bit_at (payload body 9) 8 ≡ bit_at (bits_of body) 8
+bit_eight body = bit_within 9 8 (bits_of body) (omega arith)
 
-pub short_by : (body : List ℕ) (b : Bit) → 6 ≤ length body → bit_at (bits_of body) 8 ≡ b → display_short body ≡ is_one b && ltb (length body) 9
+pub short_by : (body : List ℕ) (b : std.Option ℕ) → 6 ≤ length body → bit_at (bits_of body) 8 ≡ b → display_short body ≡ is_one b && ltb (length body) 9
 unfolding display_short least_bytes
-short_by body b h e = rw (le-ltb _ _ h) (ap (λ (x : Bit). is_one x && ltb (length body) 9) e)
+short_by body b h e = rw (le-ltb _ _ h) (ap (λ (x : std.Option ℕ). is_one x && ltb (length body) 9) e)
 
-abbrev by_colour : List ℕ → Bit → Reading ExtensionBody
+abbrev by_colour : List ℕ → std.Option ℕ → Reading ExtensionBody
 by_colour body b = read_bit b >>= (λ colour. cond (eqb colour 1) (coloured_of body) (plain_of body))
 
 pub display_short_lem : (body : List ℕ) → display_short body ≡ true → display_of body ≡ Err Short
 unfolding display_of
 display_short_lem body e = ap (λ (t : Bool). refuse_if t Short >> by_colour body (bit_at (bits_of body) 8)) e
 
-pub display_long : (body : List ℕ) (b : Bit) → display_short body ≡ false → bit_at (bits_of body) 8 ≡ b → display_of body ≡ (read_bit b >>= (λ colour. cond (eqb colour 1) (coloured_of body) (plain_of body)))
+pub display_long : (body : List ℕ) (b : std.Option ℕ) → display_short body ≡ false → bit_at (bits_of body) 8 ≡ b → display_of body ≡ (read_bit b >>= (λ colour. cond (eqb colour 1) (coloured_of body) (plain_of body)))
 unfolding display_of
 display_long body b e f = ap (λ (t : Bool). refuse_if t Short >> by_colour body (bit_at (bits_of body) 8)) e ∙ ap (by_colour body) f
 

@@ -1,5 +1,6 @@
 -- Reading a header, a display extension or any extension refuses exactly where its body breaks what document 01 says of it.
 use Rattle.std.proofs.Common.{Ok, Err}
+use Rattle.std.specs.Prelude as std
 use Prim.Native.Nat.{ℕ, ◌≤◌, ◌<◌}
 use mathlib.Core.Path.{◌≡◌, refl, sym, ap, ◌∙◌, subst}
 use mathlib.Core.Logic.{◌≢◌, inl, inr, ◌↔◌}
@@ -13,8 +14,6 @@ use lib.ListN.{length}
 use Rattle.answers.proofs.ResultLaws.{not_err}
 use Rattle.answers.specs.Answers.{Carried, refused, SHORT, VALUE}
 use Rattle.bits.specs.Bits.{bits_of, bit_at, read_on, read_at}
-use Rattle.bits.specs.declared.Bit.{Bit}
-use Rattle.bits.specs.declared.Bit.TheVariants as bit
 use Rattle.bits.proofs.TestLaws.{by_test, and_true}
 use Rattle.layout.specs.Layouts.{fields}
 use Rattle.bodies.specs.Records.{header_record, plain_record, coloured_record, copyright_record}
@@ -87,9 +86,9 @@ refused_iff r Broken iff n carried = let a = answer_refused r n carried in (
 
 -- ── display extensions ──
 
-one_is : (b : Bit) → is_one b ≡ true → b ≡ bit.Is 1
-one_is (bit.Is b) e = ap bit.Is (eqb-true b 1 e)
-one_is bit.Missing e = absurd (false≢true e)
+one_is : (b : std.Option ℕ) → is_one b ≡ true → b ≡ std.Some 1
+one_is (std.Some b) e = ap std.Some (eqb-true b 1 e)
+one_is std.None e = absurd (false≢true e)
 
 pub short_iff : (body : List ℕ) → (display_short body ≡ true) ↔ ShortDisplay body
 unfolding display_short
@@ -117,7 +116,7 @@ module _ (body : List ℕ) (long : ¬ ShortDisplay body) where
   colour_bit = colour_there body (not_short body ((long_iff body).1 long))
 
   display_by_lem : (given : ℕ) → ColourGiven body given → display_of body ≡ cond (eqb given 1) (coloured_of body) (plain_of body)
-  display_by_lem given c = display_long body (bit.Is given) ((long_iff body).1 long) c
+  display_by_lem given c = display_long body (std.Some given) ((long_iff body).1 long) c
 
   display_breaks : (why : Fault) → display_of body ≡ Err why → BreaksDisplay body why
   display_breaks why e =

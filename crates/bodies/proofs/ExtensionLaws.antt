@@ -1,5 +1,6 @@
 -- What an answer is given for: the bodies that obey, by their number and colour bit.
 use Rattle.std.proofs.Common.{Result, Ok, Err}
+use Rattle.std.specs.Prelude as std
 use Prim.Native.Nat.{ℕ, zero, suc, ◌+◌, ◌*◌, ◌<◌}
 use mathlib.Core.Path.{◌≡◌, refl, sym, ap, ◌∙◌, subst}
 use mathlib.Core.Logic.{◌≢◌, ◌↔◌}
@@ -12,8 +13,6 @@ use lib.Dec.{eqb}
 use lib.ListN.{length, get_or, get_elem?, take, drop}
 use Rattle.answers.specs.Answers.{Carried, done, refused}
 use Rattle.bits.specs.Bits.{bits_of, bit_at, read_on, read_at}
-use Rattle.bits.specs.declared.Bit.{Bit}
-use Rattle.bits.specs.declared.Bit.TheVariants as bit
 use Rattle.bits.proofs.TestLaws.{by_test}
 use Rattle.bits.proofs.BitLaws.{bit_here}
 use Rattle.layout.specs.Layouts.{width_of, marker, fields, bit_count, least_bytes}
@@ -128,15 +127,15 @@ held_field layout body vs end h i k =
     let z : bit_count (take i (fields layout)) ≡ 0 + bit_count (take i (fields layout)) = omega arith in
     rw z (value_read (bits_of body) (fields layout) 0 vs i (held_read layout body vs end h) k)
 
-bit_value : (l : List ℕ) (at v : ℕ) (m : List ℕ) → drop at l ≡ m → read_on 0 1 m ≡ Ok v → bit_at l at ≡ bit.Is v
+bit_value : (l : List ℕ) (at v : ℕ) (m : List ℕ) → drop at l ≡ m → read_on 0 1 m ≡ Ok v → bit_at l at ≡ std.Some v
 unfolding read_on
 bit_value l at v [] d e = not_ok e
 bit_value l at v (b ∷ m) d e =
     let s : 0 * 2 + b ≡ v = ok_same e in
     let t : b ≡ v = omega arith in
-    sym (bit_here l at b m d) ∙ ap bit.Is t
+    sym (bit_here l at b m d) ∙ ap std.Some t
 
-colour_bit : (body : List ℕ) (v : ℕ) → read_at (bits_of body) 8 1 ≡ Ok v → bit_at (bits_of body) 8 ≡ bit.Is v
+colour_bit : (body : List ℕ) (v : ℕ) → read_at (bits_of body) 8 1 ≡ Ok v → bit_at (bits_of body) 8 ≡ std.Some v
 unfolding read_at
 colour_bit body v e = bit_value (bits_of body) 8 v (drop 8 (bits_of body)) refl e
 
@@ -157,7 +156,7 @@ display_if body x n e = by_test (display_short body) (λ t. not_ok (sym (display
     long : display_short body ≡ false → (d : DisplayExtension) × (x ≡ extension.Display d) × DisplayBody body d
     long f =
         let (given, c, small) = colour_there body (not_short body f) in
-        let r : cond (eqb given 1) (coloured_of body) (plain_of body) ≡ Ok x = sym (display_long body (bit.Is given) f c) ∙ e in
+        let r : cond (eqb given 1) (coloured_of body) (plain_of body) ≡ Ok x = sym (display_long body (std.Some given) f c) ∙ e in
         by_test (eqb given 1)
         (λ t.
         let w = wrapped (record_of Coloured coloured_record body) extension.Display x (rw t at r) in
@@ -174,13 +173,13 @@ if_display : (body : List ℕ) (d : DisplayExtension) → DisplayBody body d →
 unfolding plain_of coloured_of least_bytes
 if_display body d (plain n c vs h m) = (
   n,
-  display_long body (bit.Is 0) (short_by body (bit.Is 0) h.long c) c
+  display_long body (std.Some 0) (short_by body (std.Some 0) h.long c) c
       ∙ ap (λ (r : Reading DisplayExtension). r >>= (λ d. Ok (extension.Display d))) (if_record Display plain_record body d vs h m),
 )
 if_display body d (coloured n c vs h m) =
     let long = h.long in (
       n,
-      display_long body (bit.Is 1) (short_by body (bit.Is 1) (omega arith) c ∙ le-ltb (length body) 9 h.long) c
+      display_long body (std.Some 1) (short_by body (std.Some 1) (omega arith) c ∙ le-ltb (length body) 9 h.long) c
           ∙ ap (λ (r : Reading DisplayExtension). r >>= (λ d. Ok (extension.Display d))) (if_record Coloured coloured_record body d vs h m),
     )
 
@@ -257,17 +256,17 @@ display_result body h = by_number_lem Head body 2 h
 
 -- ── the fields that choose a layout ──
 
-same_bit : (m n : ℕ) (x : Bit) → x ≡ bit.Is m → x ≡ bit.Is n → m ≡ n
+same_bit : (m n : ℕ) (x : std.Option ℕ) → x ≡ std.Some m → x ≡ std.Some n → m ≡ n
 same_bit m n x e f = cc
 
-pub display_fixed : (body vs end : List ℕ) → Holds Display body vs end → HasNumber body 2 → bit_at (bits_of body) 8 ≡ bit.Is 0 → (get_or vs 0 0 ≡ 2) × (get_or vs 3 0 ≡ 0)
+pub display_fixed : (body vs end : List ℕ) → Holds Display body vs end → HasNumber body 2 → bit_at (bits_of body) 8 ≡ std.Some 0 → (get_or vs 0 0 ≡ 2) × (get_or vs 3 0 ≡ 0)
 unfolding fields
 display_fixed body vs end h n c = (
   number_one body (get_or vs 0 0) 2 ((number_iff body _).0 (held_field Display body vs end h 0 (omega arith))) n,
   same_bit (get_or vs 3 0) 0 (bit_at (bits_of body) 8) (colour_bit body (get_or vs 3 0) (held_field Display body vs end h 3 (omega arith))) c,
 )
 
-pub coloured_fixed : (body vs end : List ℕ) → Holds Coloured body vs end → HasNumber body 2 → bit_at (bits_of body) 8 ≡ bit.Is 1 → (get_or vs 0 0 ≡ 2) × (get_or vs 3 0 ≡ 1)
+pub coloured_fixed : (body vs end : List ℕ) → Holds Coloured body vs end → HasNumber body 2 → bit_at (bits_of body) 8 ≡ std.Some 1 → (get_or vs 0 0 ≡ 2) × (get_or vs 3 0 ≡ 1)
 unfolding fields
 coloured_fixed body vs end h n c = (
   number_one body (get_or vs 0 0) 2 ((number_iff body _).0 (held_field Coloured body vs end h 0 (omega arith))) n,

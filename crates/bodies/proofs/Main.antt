@@ -1,5 +1,5 @@
 -- What is proved of bodies beyond the contracts of the functions.
-use Rattle.std.proofs.Common.{Result, Ok, Err}
+use Rattle.std.specs.Prelude.{Some, Result, Ok, Err}
 use Prim.Native.Nat.{ℕ, ◌/◌, ◌%◌, ◌<◌}
 use mathlib.Core.Path.{◌≡◌, sym, ap}
 use mathlib.Core.Logic.{◌↔◌, ◌≢◌}
@@ -10,7 +10,6 @@ use native.Mathlib.Omega.{arith}
 use lib.ListN.{get_or, get_elem?}
 use Rattle.answers.specs.Answers.{Carried, at_bit, done, refused, OneToOne, SHORT, VALUE}
 use Rattle.bits.specs.Bits.{bits_in, bits_of, bit_at}
-use Rattle.bits.specs.declared.Bit.TheVariants.{Is}
 use Rattle.bodies.specs.Extensions.{HasNumber, ColourGiven, is_opaque}
 use Rattle.bodies.specs.Records.{bit_rate}
 use Rattle.bodies.specs.Bodies.{HeaderBody, DisplayBody, CopyrightBody}
@@ -109,10 +108,10 @@ pub short_display_iff : (body : List ℕ) → (display_short body ≡ true) ↔ 
 short_display_iff = breaks.short_iff
 
 -- The number and the colour bit choose the layout, so their fields have the values that chose it.
-pub display_fixed : (body vs end : List ℕ) → Holds Display body vs end → HasNumber body 2 → bit_at (bits_of body) 8 ≡ Is 0 → (get_or vs 0 0 ≡ 2) × (get_or vs 3 0 ≡ 0)
+pub display_fixed : (body vs end : List ℕ) → Holds Display body vs end → HasNumber body 2 → bit_at (bits_of body) 8 ≡ Some 0 → (get_or vs 0 0 ≡ 2) × (get_or vs 3 0 ≡ 0)
 display_fixed = laws.display_fixed
 
-pub coloured_fixed : (body vs end : List ℕ) → Holds Coloured body vs end → HasNumber body 2 → bit_at (bits_of body) 8 ≡ Is 1 → (get_or vs 0 0 ≡ 2) × (get_or vs 3 0 ≡ 1)
+pub coloured_fixed : (body vs end : List ℕ) → Holds Coloured body vs end → HasNumber body 2 → bit_at (bits_of body) 8 ≡ Some 1 → (get_or vs 0 0 ≡ 2) × (get_or vs 3 0 ≡ 1)
 coloured_fixed = laws.coloured_fixed
 
 pub copyright_fixed : (body vs end : List ℕ) → Holds Copyright body vs end → HasNumber body 4 → get_or vs 0 0 ≡ 4

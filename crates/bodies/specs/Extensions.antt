@@ -1,7 +1,6 @@
 -- Document 01, "Layouts": which extension a body is, by its number, and which layout a display extension has.
-use Rattle.std.specs.Prelude.{ℕ, ◌<◌, ◌≡◌, List, [], ◌∷◌, Bool, true, false, ◌&&◌, not, eqb}
+use Rattle.std.specs.Prelude.{ℕ, ◌<◌, ◌≡◌, List, [], ◌∷◌, Bool, true, false, ◌&&◌, not, eqb, Some}
 use Rattle.bits.specs.Bits.{bits_in, bits_of, bit_at}
-use Rattle.bits.specs.declared.Bit.TheVariants.{Is}
 use Rattle.bodies.specs.declared.Scope.{Scope}
 use Rattle.bodies.specs.declared.Scope.TheVariants.{Head, Picture}
 
@@ -22,7 +21,7 @@ pub record HasNumber (body : List ℕ) (n : ℕ) : Type 0 where
 
 -- "colour given": bit 8 of a display extension
 abbrev pub ColourGiven : List ℕ → ℕ → Type 0
-ColourGiven body given = bit_at (bits_of body) 8 ≡ Is given
+ColourGiven body given = bit_at (bits_of body) 8 ≡ Some given
 
 -- Number 4 anywhere is copyright, number 2 in a group's head is the display extension. Any other extension is opaque.
 unfoldable pub is_opaque : Scope → List ℕ → Bool

@@ -1,11 +1,10 @@
 -- Reading sequence headers and extensions, as a computation: the values of a body by its layout, then the record that they make.
 use Rattle.std.specs.Prelude.{ℕ, List, Bool, false, cond, ◌&&◌, ◌||◌, eqb, Result, Ok, Err}
+use Rattle.std.specs.Prelude as std
 use Rattle.std.proofs.Math.Option.{Option, none, some}
 use Rattle.answers.specs.Answers.{Outcome}
 use Rattle.answers.specs.Results.{◌>>=◌}
 use Rattle.bits.specs.Bits.{bits_of, bit_at, read_at}
-use Rattle.bits.specs.declared.Bit.{Bit}
-use Rattle.bits.specs.declared.Bit.TheVariants as bit
 use Rattle.layout.specs.Reader.{Reading, ◌>>◌, refuse_if, read_value, short, reading}
 use Rattle.layout.specs.declared.Layout.{Layout}
 use Rattle.layout.specs.declared.Layout.TheVariants.{Header, Display, Coloured, Copyright}
@@ -59,14 +58,14 @@ copyright_of body = do
   Ok (extension.Copyright c)
 
 -- a bit that is there and is 1
-abbrev pub is_one : Bit → Bool
-is_one (bit.Is b) = eqb b 1
-is_one bit.Missing = false
+abbrev pub is_one : std.Option ℕ → Bool
+is_one (std.Some b) = eqb b 1
+is_one std.None = false
 
 -- a bit that is not there is SHORT
-abbrev pub read_bit : Bit → Reading ℕ
-read_bit (bit.Is b) = Ok b
-read_bit bit.Missing = Err Short
+abbrev pub read_bit : std.Option ℕ → Reading ℕ
+read_bit (std.Some b) = Ok b
+read_bit std.None = Err Short
 
 -- SHORT of a display extension: fewer than 6 bytes, or fewer than 9 with colour given, which is bit 8
 unfoldable pub display_short : List ℕ → Bool

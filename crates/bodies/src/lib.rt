@@ -2,12 +2,13 @@
 #![tactic(auto)]
 
 ghost use Rattle.std.specs.Prelude.{◌≡◌};
+ghost use Rattle.bits.specs.Bits.{bits_of, bit_at};
 ghost use Rattle.layout.specs.Reader.{read_value};
 ghost use Rattle.bodies.specs.Extensions.{numbered, is_opaque};
 ghost use Rattle.bodies.specs.Reader.{header_of, plain_of, coloured_of, copyright_of, display_short, display_of, number_of, by_number, extension_of};
 ghost use Rattle.bodies.specs.Answers.{fault_number, answer_of};
 
-use bits::Bit;
+use bits::Payload;
 use layout::{Fault, Layout};
 
 #[derive(Clone, Copy)]
@@ -218,32 +219,38 @@ pub fn is_opaque(body: &[u8], scope: Scope) -> bool
     }
 }
 
+// Colour given, bit 8 of a display extension.
+#[tactic(auto, using(crate::proofs::AnswerLaws::bit_eight))]
+fn colour_given(body: &[u8]) -> Option<u32>
+    ensures { result ≡ bit_at (bits_of body.now) 8 }
+{
+    let first = Payload {
+        bytes: body,
+        count: 9,
+    };
+    first.bit(8)
+}
+
 // Whether a display extension's body is too short for its fields.
-#[tactic(auto, using(crate::proofs::AnswerLaws::colour_bit), unfolding(crate::specs::Reader::display_short, layout::specs::Layouts::least_bytes))]
+#[tactic(auto, unfolding(crate::specs::Reader::display_short, layout::specs::Layouts::least_bytes))]
 pub fn display_short(body: &[u8]) -> bool
     ensures { result ≡ display_short body.now }
 {
-    if body.len() < 6 {
-        return true;
-    }
-    match bits::read_bit(body, 9, 8) {
-        Bit::Is(given) => given == 1 && body.len() < 9,
-        Bit::Missing => false,
-    }
+    body.len() < 6 || (colour_given(body) == Some(1) && body.len() < 9)
 }
 
 // A display extension's body, by its colour bit.
-#[tactic(auto, using(crate::proofs::AnswerLaws::colour_bit), unfolding(crate::specs::Reader::display_of))]
+#[tactic(auto, unfolding(crate::specs::Reader::display_of))]
 fn display(body: &[u8]) -> Result<ExtensionBody, Fault>
     ensures { result ≡ display_of body.now }
 {
     if display_short(body) {
         return Err(Fault::Short);
     }
-    match bits::read_bit(body, 9, 8) {
-        Bit::Is(1) => coloured(body),
-        Bit::Is(_) => plain(body),
-        Bit::Missing => Err(Fault::Short),
+    match colour_given(body) {
+        Some(1) => coloured(body),
+        Some(_) => plain(body),
+        None => Err(Fault::Short),
     }
 }
 

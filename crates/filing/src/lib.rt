@@ -144,7 +144,7 @@ fn put_row(rows: &mut [u32], i: usize, code: u8, offset: usize, length: usize)
     ensures { rows.new ≡ take (i * 3) rows.old ++ (code ∷ offset ∷ length ∷ drop (i * 3 + 3) rows.old) }
 {
     let at = i * 3;
-    rows[at] = bits::wide(code);
+    rows[at] = u32::from(code);
     rows[at + 1] = offset as u32;
     rows[at + 2] = length as u32;
 }

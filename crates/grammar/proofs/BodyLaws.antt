@@ -11,7 +11,7 @@ use borrow.Author.Tests.{eqb-true, eqb-false, eq-eqb, le-ltb}
 use lib.Dec.{eqb}
 use lib.ListN.{length}
 use Rattle.answers.proofs.ResultLaws.{not_ok, bind_ok}
-use Rattle.bits.specs.declared.Bit.TheVariants as bit
+use Rattle.std.specs.Prelude as std
 use Rattle.bits.proofs.TestLaws.{by_test}
 use Rattle.layout.specs.Reader.{read_value}
 use Rattle.bodies.specs.Reader.{record_of, number_of, header_result, by_number, not_copyright, extension_result, display_short, display_of, plain_of, coloured_of, copyright_of}
@@ -118,13 +118,13 @@ coloured_good body = layout_good Coloured coloured_record answers.display body c
 -- by the colour bit, the one layout or the other
 plain_display : (body vs : List ℕ) → ColourGiven body 0 → Obeys Display body vs → display_of body ≡ plain_of body
 unfolding least_bytes
-plain_display body vs c h = laws.display_long body (bit.Is 0) (short_by body (bit.Is 0) h.long c) c
+plain_display body vs c h = laws.display_long body (std.Some 0) (short_by body (std.Some 0) h.long c) c
 
 coloured_display : (body vs : List ℕ) → ColourGiven body 1 → Obeys Coloured body vs → display_of body ≡ coloured_of body
 unfolding least_bytes
 coloured_display body vs c h =
     let l = h.long in
-    laws.display_long body (bit.Is 1) (short_by body (bit.Is 1) (omega arith) c ∙ le-ltb (length body) 9 l) c
+    laws.display_long body (std.Some 1) (short_by body (std.Some 1) (omega arith) c ∙ le-ltb (length body) 9 l) c
 
 pub display_good : (body : List ℕ) → ((x : answers.Extension) × (display_of body ≡ Ok x)) ↔ IsDisplay body
 display_good body = (from_result, λ h. from_layout h.0 h.1)
@@ -133,7 +133,7 @@ display_good body = (from_result, λ h. from_layout h.0 h.1)
     from_result (x, e) =
         let f = display_long body x e in
         let (given, c, small) = colour_there body (not_short body f) in
-        let r : cond (eqb given 1) (coloured_of body) (plain_of body) ≡ Ok x = sym (laws.display_long body (bit.Is given) f c) ∙ e in
+        let r : cond (eqb given 1) (coloured_of body) (plain_of body) ≡ Ok x = sym (laws.display_long body (std.Some given) f c) ∙ e in
         by_test (eqb given 1)
         (λ t. let o = (coloured_good body).0 (x, rw t at r) in (o.0, inr (subst (ColourGiven body) (eqb-true given 1 t) c, o.1)))
         (λ g.

@@ -9,7 +9,7 @@ ghost use Rattle.layout.specs.Values.{ownership};
 ghost use Rattle.layout.specs.Reader.{allows, ruled, all_zero, stuffing, owned_by, cross, both, ended, reading};
 ghost use Rattle.layout.specs.Inside.{taken, taken_from};
 
-use bits::Read;
+use bits::Payload;
 
 // The fields of the layouts.
 #[derive(Clone, Copy)]
@@ -258,15 +258,15 @@ fn read_field(field: Field, body: &[u8], at: usize) -> Result<u32, Fault>
     ensures { result ≡ taken field at (bits_of body.now) }
 {
     let Field(_, width, rule) = field;
-    let end = at + width as usize;
-    match bits::read_bits(body, end, at, width) {
-        Read::Value(value) => {
-            ruled_on(rule, value, at)?;
-            Ok(value)
-        }
-        Read::Missing(_) => Err(Fault::Short),
-        Read::TooWide => Err(Fault::Short), // never: no field is so wide
-    }
+    let before = Payload {
+        bytes: body,
+        count: at + width as usize,
+    };
+    let Ok(value) = before.read(at, width) else {
+        return Err(Fault::Short); // never too wide: no field is
+    };
+    ruled_on(rule, value, at)?;
+    Ok(value)
 }
 
 // The values of a body's fields, in order, or the first that is ruled out.

@@ -9,7 +9,7 @@ ghost use Rattle.payload.specs.Golomb.{golomb_says, stands_for, signed_says};
 ghost use Rattle.payload.specs.Reader.{zeros_on, golomb, signed_golomb};
 ghost use Rattle.payload.specs.Inside.{kept_width, Partial, waits, Joined, Pushable, Pushed, Copied};
 
-use bits::{Bit, Read};
+use bits::{Payload, ReadError};
 
 // The most bytes of a payload.
 const LIMIT: usize = 65536;
@@ -37,7 +37,7 @@ fn bit_of(byte: u8, j: u32) -> u32
     requires { j < 8 }
     ensures { (result ≡ get_or (bits_in 8 byte) j 0) × (result < 2) }
 {
-    bits::wide(byte) >> (7 - j) & 1
+    u32::from(byte) >> (7 - j) & 1
 }
 
 // The last eight bits of v, and after them the first width bits of a byte, one a turn.
@@ -226,15 +226,16 @@ fn count_zeros(bytes: &[u8], count: usize, place: usize) -> Zeros
     let mut z: u32 = 0;
     let mut at = place;
     while z < 32 {
-        match bits::read_bit(bytes, count, at) {
-            Bit::Is(bit) => {
+        let bits = Payload { bytes, count };
+        match bits.bit(at) {
+            Some(bit) => {
                 at += 1;
                 if bit != 0 {
                     return Zeros::Before(z, at);
                 }
                 z += 1;
             }
-            Bit::Missing => {
+            None => {
                 return Zeros::Missing;
             }
         }
@@ -249,14 +250,15 @@ pub fn unsigned_golomb(bytes: &[u8], count: usize, place: usize) -> Golomb
     if LIMIT < bytes.len() {
         return Golomb::TooLong;
     }
+    let bits = Payload { bytes, count };
     match count_zeros(bytes, count, place) {
-        Zeros::Before(z, at) => match bits::read_bits(bytes, count, at, z) {
-            Read::Value(b) => {
+        Zeros::Before(z, at) => match bits.read(at, z) {
+            Ok(b) => {
                 let one: u32 = 1;
                 Golomb::Number((one << z) - 1 + b, at + z as usize)
             }
-            Read::Missing(missing) => Golomb::PayloadOut(missing),
-            Read::TooWide => Golomb::Value, // never: at most 31 zeros stand before the 1
+            Err(ReadError::Missing(missing)) => Golomb::PayloadOut(missing),
+            Err(ReadError::TooWide) => Golomb::Value, // never: at most 31 zeros stand before the 1
         },
         Zeros::TooMany => Golomb::Value,
         Zeros::Missing => Golomb::PayloadOut(1),

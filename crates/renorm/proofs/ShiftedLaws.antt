@@ -1,4 +1,5 @@
 -- What renormalisation answers, and what stands behind an answer that is done.
+use Rattle.std.specs.Prelude.{Option, Some, None}
 use Prim.Native.Nat.{ℕ, ◌+◌, ◌-◌, ◌*◌, ◌/◌, ◌%◌, ◌^◌, ◌≤◌, ◌<◌}
 use mathlib.Core.Path.{◌≡◌, refl, sym, subst, ◌∙◌}
 use mathlib.Core.Bool.{Bool, true, false}
@@ -6,7 +7,6 @@ use native.Mathlib.Omega.{arith}
 use borrow.Author.Tests.{le-leb, lt-leb, leb-true, leb-false}
 use lib.Dec.{leb}
 use Rattle.bits.specs.declared.Word.{Word}
-use Rattle.bits.specs.declared.Word.TheVariants as word
 use Rattle.bits.proofs.TestLaws.{by_test}
 use Rattle.renorm.specs.Reader.{doublings_of, needed_of, shifted_of, left_of, after_word}
 use Rattle.renorm.specs.declared.Registers.{Registers}
@@ -54,8 +54,8 @@ done_holds value left width range z e =
     none d = let i : ◌≡◌ {A = ℕ} 0 1 = cc in absurd (omega arith)
 
 -- the bits that were read
-pub word_of : (w : Word) (head range : ℕ) (b : Bool) (z : Registers) → after_word w head b range ≡ Done z →
-    (v : ℕ) × (width : ℕ) × (w ≡ word.Bits v width) × (shifted_of (head * 2 ^ left_of width b + v) (left_of width b) width range ≡ Done z)
+pub word_of : (w : Option Word) (head range : ℕ) (b : Bool) (z : Registers) → after_word w head b range ≡ Done z →
+    (v : ℕ) × (width : ℕ) × (w ≡ Some (record { bits = v; width = width })) × (shifted_of (head * 2 ^ left_of width b + v) (left_of width b) width range ≡ Done z)
 unfolding after_word
-word_of (word.Bits v width) head range b z e = (v, width, refl, e)
-word_of word.Few head range b z e = let i : ◌≡◌ {A = ℕ} 0 1 = cc in absurd (omega arith)
+word_of (Some w) head range b z e = (w.bits, w.width, refl, e)
+word_of None head range b z e = let i : ◌≡◌ {A = ℕ} 0 1 = cc in absurd (omega arith)

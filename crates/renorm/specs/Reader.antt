@@ -1,9 +1,8 @@
 -- Renormalisation over many bits at once: what is computed, and no part of document 01.
-use Rattle.std.specs.Prelude.{ℕ, ◌+◌, ◌-◌, ◌*◌, ◌/◌, ◌%◌, ◌^◌, List, Bool, cond, leb}
+use Rattle.std.specs.Prelude.{ℕ, ◌+◌, ◌-◌, ◌*◌, ◌/◌, ◌%◌, ◌^◌, List, Bool, cond, leb, Option, Some, None}
 use Rattle.std.specs.Int.Count.{count_leading_zeros}
 use Rattle.bits.specs.Reader.{word_at}
 use Rattle.bits.specs.declared.Word.{Word}
-use Rattle.bits.specs.declared.Word.TheVariants as word
 use Rattle.renorm.specs.declared.Renormalised.{Renormalised}
 use Rattle.renorm.specs.declared.Renormalised.TheVariants as renormalised
 
@@ -30,9 +29,9 @@ abbrev pub left_of : ℕ → Bool → ℕ
 left_of width borrows = cond borrows (width - 1) width
 
 -- the bits follow the head as one number, to which a borrowed one is so added
-unfoldable pub after_word : Word → ℕ → Bool → ℕ → Renormalised
-after_word (word.Bits v width) head borrows range = shifted_of (head * 2 ^ left_of width borrows + v) (left_of width borrows) width range
-after_word word.Few head borrows range = renormalised.Short
+unfoldable pub after_word : Option Word → ℕ → Bool → ℕ → Renormalised
+after_word (Some w) head borrows range = shifted_of (head * 2 ^ left_of w.width borrows + w.bits) (left_of w.width borrows) w.width range
+after_word None head borrows range = renormalised.Short
 
 abbrev pub renormalise_of : List ℕ → ℕ → ℕ → Bool → ℕ → Renormalised
 renormalise_of bits place head borrows range = after_word (word_at bits place) head borrows range

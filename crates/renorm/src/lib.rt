@@ -5,7 +5,7 @@ ghost use Rattle.std.specs.Prelude.{◌≡◌, ◌+◌, ◌-◌, ◌*◌, ◌≤
 ghost use Rattle.bits.specs.Bits.{payload};
 ghost use Rattle.renorm.specs.Reader.{doublings_of, needed_of, left_of, shifted_of, renormalise_of};
 
-use bits::Word;
+use bits::Payload;
 
 // rT, valueS and valueT after it, and how many bits it took.
 #[derive(Clone, Copy)]
@@ -86,11 +86,13 @@ pub fn renormalise(
 ) -> Renormalised
     ensures { result ≡ renormalise_of (payload bytes.now count) place head borrows range }
 {
-    match bits::read_word(bytes, count, place) {
-        Word::Bits(word, width) => {
-            let left = left_of(width, borrows);
-            shifted(((head as u64) << left) + word as u64, left, width, range)
+    let payload = Payload { bytes, count };
+    match payload.word(place) {
+        Some(word) => {
+            let left = left_of(word.width, borrows);
+            let value = (u64::from(head) << left) + u64::from(word.bits);
+            shifted(value, left, word.width, range)
         }
-        Word::Few => Renormalised::Short,
+        None => Renormalised::Short,
     }
 }

@@ -3,7 +3,7 @@ use Prim.Native.Nat.{ℕ, ◌+◌}
 use mathlib.Core.Path.{◌≡◌, refl, sym, ap, ◌∙◌}
 use mathlib.Core.List.{List, [], ◌∷◌, ◌++◌}
 use mathlib.Core.Bool.{Bool, true, cond}
-use mathlib.Core.Option.{none, some}
+use Rattle.std.proofs.Common.{Some, None}
 use native.Mathlib.Omega.{arith}
 use borrow.Author.Tests.{le-leb}
 use lib.ListN.{length, take, drop, length-append}
@@ -15,7 +15,7 @@ use Rattle.grammar.proofs.Filing.{units_of_placed}
 use Rattle.grammar.proofs.RowLaws.{rows_length, length_le, bytes_of, bytes_append, concat_units, row_for, rows_append}
 use Rattle.rows.specs.Rows.{held_row, in_stream, if_in_stream, existing, is_row, row_exists, part_of, row_body}
 
-pub filed_row : (before : List Row) (r : Row) (after : List Row) (rest : List ℕ) → held_row (words (before ++ r ∷ after) ++ rest) (length before) ≡ some r
+pub filed_row : (before : List Row) (r : Row) (after : List Row) (rest : List ℕ) → held_row (words (before ++ r ∷ after) ++ rest) (length before) ≡ Some r
 unfolding held_row
 filed_row [] r after rest = refl
 filed_row (b ∷ before) r after rest = filed_row before r after rest
@@ -23,7 +23,7 @@ filed_row (b ∷ before) r after rest = filed_row before r after rest
 -- ── the body of a unit's row ──
 
 held_unit : (before : List Placed) (p : Placed) (after : List Placed) (rest : List ℕ)
-    → held_row (words (rows_from 0 (before ++ p ∷ after)) ++ rest) (length before) ≡ some (row_for (length (bytes_of before)) p)
+    → held_row (words (rows_from 0 (before ++ p ∷ after)) ++ rest) (length before) ≡ Some (row_for (length (bytes_of before)) p)
 held_unit before p after rest =
     let at = length (bytes_of before) in
     let rs = rows_from (at + length (bytes p.unit)) after in
@@ -43,13 +43,13 @@ body_inside b p a =
     ∙ take-append-le (row_length p) p.unit.body a (length_le p)
 
 existing_unit : (before : List Placed) (p : Placed) (after : List Placed) (rest : List ℕ)
-    → existing (bytes_of (before ++ p ∷ after)) (words (rows_from 0 (before ++ p ∷ after)) ++ rest) (length before) ≡ some (row_for (length (bytes_of before)) p)
+    → existing (bytes_of (before ++ p ∷ after)) (words (rows_from 0 (before ++ p ∷ after)) ++ rest) (length before) ≡ Some (row_for (length (bytes_of before)) p)
 unfolding existing
 existing_unit before p after rest =
     let r = row_for (length (bytes_of before)) p in
     let s = bytes_of (before ++ p ∷ after) in
     ap (if_in_stream s) (held_unit before p after rest)
-    ∙ ap (λ (t : Bool). cond t (some r) none) (ap (λ (l : List ℕ). in_stream l r) (bytes_append before (p ∷ after)) ∙ row_inside (bytes_of before) p (bytes_of after))
+    ∙ ap (λ (t : Bool). cond t (Some r) None) (ap (λ (l : List ℕ). in_stream l r) (bytes_append before (p ∷ after)) ∙ row_inside (bytes_of before) p (bytes_of after))
 
 stream_of : (stream : List ℕ) (r : Reading) → Reads stream r → bytes_of (placed_units r) ≡ stream
 stream_of stream r h = sym (concat_units (placed_units r)) ∙ ap (concat_map bytes) (units_of_placed r) ∙ h.stream_is
@@ -58,7 +58,7 @@ pub filed_body : (stream : List ℕ) (r : Reading) → Reads stream r → (befor
     → (rest : List ℕ) → (row_exists stream (words (rows r) ++ rest) (length before) ≡ true) × (row_body stream (words (rows r) ++ rest) (length before) ≡ take (row_length p) p.unit.body)
 filed_body stream r h before p after e rest =
     let s : stream ≡ bytes_of (before ++ p ∷ after) = sym (stream_of stream r h) ∙ ap bytes_of e in
-    let x : existing stream (words (rows r) ++ rest) (length before) ≡ some (row_for (length (bytes_of before)) p) =
+    let x : existing stream (words (rows r) ++ rest) (length before) ≡ Some (row_for (length (bytes_of before)) p) =
     ap (λ (l : List ℕ). existing l (words (rows r) ++ rest) (length before)) s
     ∙ ap (λ (ps : List Placed). existing (bytes_of (before ++ p ∷ after)) (words (rows_from 0 ps) ++ rest) (length before)) e
     ∙ existing_unit before p after rest in (

@@ -3,7 +3,7 @@ use Prim.Native.Nat.{ℕ, ◌/◌}
 use mathlib.Core.Path.{◌≡◌}
 use mathlib.Core.List.{List, ◌∷◌, ◌++◌}
 use mathlib.Core.Bool.{true}
-use mathlib.Core.Option.{some}
+use Rattle.std.proofs.Common.{Some}
 use lib.Dec.{ltb}
 use lib.ListN.{length, take}
 use Rattle.grammar.specs.Grammar.{Reading, Reads}
@@ -17,7 +17,7 @@ pub held_exactly : (ws : List ℕ) (i : ℕ) → is_row (held_row ws i) ≡ ltb 
 held_exactly = laws.held_exactly
 
 -- Row i of the words that filing writes, whatever words stand after them, is the i-th row.
-pub filed_row : (before : List Row) (r : Row) (after : List Row) (rest : List ℕ) → held_row (words (before ++ r ∷ after) ++ rest) (length before) ≡ some r
+pub filed_row : (before : List Row) (r : Row) (after : List Row) (rest : List ℕ) → held_row (words (before ++ r ∷ after) ++ rest) (length before) ≡ Some r
 filed_row = filed.filed_row
 
 -- Of a filed stream the row of each unit exists, and its body is the unit's body up to the row's length.

@@ -1,39 +1,34 @@
--- Laws of rows: the row at an index, and what follows for its body.
-use Prim.Native.Nat.{ℕ, zero, suc, ◌+◌, ◌*◌, ◌/◌, ◌≤◌, ◌<◌}
+-- Laws of rows: the row at an index, by threes of words, and what follows for its body.
+use Prim.Native.Nat.{ℕ, zero, suc, ◌+◌, ◌/◌, ◌≤◌, ◌<◌}
 use mathlib.Core.Path.{◌≡◌, refl, sym, ap, ◌∙◌}
 use mathlib.Core.List.{List, [], ◌∷◌}
-use mathlib.Core.Bool.{Bool, true, false, cond, false≢true}
-use mathlib.Core.Option.{Option, none, some}
+use mathlib.Core.Bool.{Bool, true, false, cond}
 use native.Mathlib.Omega.{arith}
-use borrow.Author.Tests.{lt-ltb, le-ltb, leb-true, leb-false}
-use lib.Dec.{leb, ltb}
+use borrow.Author.Tests.{ltb-true, ltb-false, leb-true, le-leb, lt-leb}
+use lib.Dec.{ltb}
 use lib.ListN.{length, get_or}
+use Rattle.std.proofs.Common.{Option, Some, None}
+use Rattle.std.specs.Option.{option_map}
+use Rattle.std.specs.Simd.{first_chunks}
 use Rattle.bits.proofs.TestLaws.{by_test}
 use Rattle.grammar.specs.Rows.{Row}
-use Rattle.rows.specs.Rows.{held_row, in_stream, if_in_stream, existing, is_row, row_exists}
+use Rattle.rows.specs.declared.Body.{Body}
+use Rattle.rows.specs.Rows.{held_row, in_stream, if_in_stream, existing, is_row, body_of}
 
--- the three words of row i, where they are there
-abbrev pub words_at : List ℕ → ℕ → Row
-words_at ws i = record { code = get_or ws (i * 3) 0; offset = get_or ws (i * 3 + 1) 0; length = get_or ws (i * 3 + 2) 0 }
+-- the row of three words
+abbrev pub row_of : List ℕ → Row
+row_of ws = record { code = get_or ws 0 0; offset = get_or ws 1 0; length = get_or ws 2 0 }
 
--- three words less
-words_after_lem : (a b c : ℕ) (ws : List ℕ) (i : ℕ) → words_at ws i ≡ words_at (a ∷ b ∷ c ∷ ws) (suc i)
-words_after_lem a b c ws i =
-    let p : suc (suc (suc (i * 3))) ≡ suc i * 3 = omega arith in
-    let q : suc (suc (suc (i * 3 + 1))) ≡ suc i * 3 + 1 = omega arith in
-    let r : suc (suc (suc (i * 3 + 2))) ≡ suc i * 3 + 2 = omega arith in
-    let l = a ∷ b ∷ c ∷ ws in
-    λ k. record { code = get_or l (p k) 0; offset = get_or l (q k) 0; length = get_or l (r k) 0 }
-
-pub row_held : (ws : List ℕ) (i : ℕ) → i * 3 + 3 ≤ length ws → held_row ws i ≡ some (words_at ws i)
+pub row_held : (n : ℕ) (ws : List ℕ) (i : ℕ) (d : List ℕ) → n ≡ length ws / 3 → i < n → held_row ws i ≡ Some (row_of (get_or (first_chunks 3 n ws) i d))
 unfolding held_row
-row_held [] i h = absurd (omega arith)
-row_held (a ∷ []) i h = absurd (omega arith)
-row_held (a ∷ b ∷ []) i h = absurd (omega arith)
-row_held (a ∷ b ∷ c ∷ ws) zero h = refl
-row_held (a ∷ b ∷ c ∷ ws) (suc i) h = row_held ws i (omega arith) ∙ ap some (words_after_lem a b c ws i)
+row_held zero ws i d e h = absurd (omega arith)
+row_held (suc n) [] i d e h = absurd (omega arith)
+row_held (suc n) (a ∷ []) i d e h = absurd (omega arith)
+row_held (suc n) (a ∷ b ∷ []) i d e h = absurd (omega arith)
+row_held (suc n) (a ∷ b ∷ c ∷ ws) zero d e h = refl
+row_held (suc n) (a ∷ b ∷ c ∷ ws) (suc i) d e h = row_held n ws i d (omega arith) (omega arith)
 
-pub row_lacking : (ws : List ℕ) (i : ℕ) → length ws < i * 3 + 3 → held_row ws i ≡ none
+pub row_lacking : (ws : List ℕ) (i : ℕ) → length ws / 3 ≤ i → held_row ws i ≡ None
 unfolding held_row
 row_lacking [] i h = refl
 row_lacking (a ∷ []) i h = refl
@@ -41,52 +36,36 @@ row_lacking (a ∷ b ∷ []) i h = refl
 row_lacking (a ∷ b ∷ c ∷ ws) zero h = absurd (omega arith)
 row_lacking (a ∷ b ∷ c ∷ ws) (suc i) h = row_lacking ws i (omega arith)
 
--- ── whether row i exists ──
-
--- a test says whether the row that it lets by is one
-is_let_by : (t : Bool) (r : Row) → t ≡ is_row (cond t (some r) none)
-is_let_by true r = refl
-is_let_by false r = refl
-
-pub exists_held : (s ws : List ℕ) (i : ℕ) → i * 3 + 3 ≤ length ws → leb (get_or ws (i * 3 + 1) 0 + 4 + get_or ws (i * 3 + 2) 0) (length s) ≡ row_exists s ws i
-unfolding existing in_stream
-exists_held s ws i h = is_let_by (in_stream s (words_at ws i)) (words_at ws i) ∙ sym (ap (λ o. is_row (if_in_stream s o)) (row_held ws i h))
-
-pub exists_lacking : (s ws : List ℕ) (i : ℕ) → length ws < i * 3 + 3 → false ≡ row_exists s ws i
-unfolding existing
-exists_lacking s ws i h = sym (ap (λ o. is_row (if_in_stream s o)) (row_lacking ws i h))
+pub held_exactly : (ws : List ℕ) (i : ℕ) → is_row (held_row ws i) ≡ ltb i (length ws / 3)
+held_exactly ws i =
+    by_test (ltb i (length ws / 3))
+    (λ t. ap is_row (row_held (length ws / 3) ws i [] refl (ltb-true _ _ t)) ∙ sym t)
+    (λ f. ap is_row (row_lacking ws i (ltb-false _ _ f)) ∙ sym f)
 
 -- ── the body of row i ──
 
--- a row that exists
-pub record There (s ws : List ℕ) (i : ℕ) : Type 0 where
-  pub held : i * 3 + 3 ≤ length ws
-  pub inside : get_or ws (i * 3 + 1) 0 + 4 + get_or ws (i * 3 + 2) 0 ≤ length s
-  pub row : existing s ws i ≡ some (words_at ws i)
-
-pub there : (s ws : List ℕ) (i : ℕ) → row_exists s ws i ≡ true → There s ws i
+-- the body of a row that is held: within the stream, or not
+pub body_there : (s ws : List ℕ) (i : ℕ) (r : Row) → held_row ws i ≡ Some r → r.offset + 4 + r.length ≤ length s → Some (body_of r) ≡ option_map body_of (existing s ws i)
 unfolding existing in_stream
-there s ws i e =
-    by_test (leb (i * 3 + 3) (length ws))
-    (λ t.
-    let h = leb-true _ _ t in
-    let w = exists_held s ws i h ∙ e in
-    record {
-      held = h;
-      inside = leb-true _ _ w;
-      row = ap (if_in_stream s) (row_held ws i h) ∙ ap (λ b. cond b (some (words_at ws i)) none) w;
-    })
-    (λ f. absurd (false≢true (exists_lacking s ws i (leb-false _ _ f) ∙ e)))
+body_there s ws i r e h = rw (e, le-leb _ _ h)
 
-none_of : (o : Option Row) → is_row o ≡ false → o ≡ none
-none_of none e = refl
-none_of (some r) e = absurd (false≢true (sym e))
+pub body_past : (s ws : List ℕ) (i : ℕ) (r : Row) → held_row ws i ≡ Some r → length s < r.offset + 4 + r.length → None ≡ option_map body_of (existing s ws i)
+unfolding existing in_stream
+body_past s ws i r e h = rw (e, lt-leb _ _ h)
 
-pub no_row : (s ws : List ℕ) (i : ℕ) → row_exists s ws i ≡ false → existing s ws i ≡ none
-no_row s ws i e = none_of (existing s ws i) e
+pub body_lacking : (s ws : List ℕ) (i : ℕ) → held_row ws i ≡ None → None ≡ option_map body_of (existing s ws i)
+unfolding existing
+body_lacking s ws i e = sym (ap (λ o. option_map body_of (if_in_stream s o)) e)
 
-pub held_exactly : (ws : List ℕ) (i : ℕ) → is_row (held_row ws i) ≡ ltb i (length ws / 3)
-held_exactly ws i =
-    by_test (leb (i * 3 + 3) (length ws))
-    (λ t. let h = leb-true _ _ t in ap is_row (row_held ws i h) ∙ sym (lt-ltb i (length ws / 3) (omega arith)))
-    (λ f. let h = leb-false _ _ f in ap is_row (row_lacking ws i h) ∙ sym (le-ltb i (length ws / 3) (omega arith)))
+-- a body is within the stream
+pub body_inside : (s ws : List ℕ) (i : ℕ) (b : Body) → Some b ≡ option_map body_of (existing s ws i) → b.start + b.length ≤ length s
+unfolding existing in_stream
+body_inside s ws i b e = inside (held_row ws i) e
+  where
+    of_test : (r : Row) (t : Bool) → in_stream s r ≡ t → Some b ≡ option_map body_of (cond t (Some r) None) → b.start + b.length ≤ length s
+    of_test r true h e = let k = leb-true _ _ h in let f : b ≡ body_of r = cc in rw f k
+    of_test r false h e = absurd cc
+
+    inside : (o : Option Row) → Some b ≡ option_map body_of (if_in_stream s o) → b.start + b.length ≤ length s
+    inside None e = absurd cc
+    inside (Some r) e = of_test r (in_stream s r) refl e

@@ -2,7 +2,7 @@
 // its answer. tests/reads_oracle.py reads the questions from this file, works the answers out by itself, and says what the numbers are.
 #![tactic(auto)]
 
-use bits::{Bit, Read};
+use bits::{Payload, ReadError};
 use bodies::SequenceHeader;
 use std::{fmt, io};
 use text::Hex;
@@ -11,27 +11,27 @@ use text::Hex;
 
 // A bit, or that there is none.
 #[derive(Drop)]
-struct Shown(Bit);
+struct Shown(Option<u32>);
 
 impl fmt::Display for Shown {
     fn fmt<W: fmt::Write>(&self, f: &mut fmt::Formatter<W>) -> fmt::Result {
         match self.0 {
-            Bit::Is(value) => write!(f, "{value}"),
-            Bit::Missing => write!(f, "none"),
+            Some(value) => write!(f, "{value}"),
+            None => write!(f, "none"),
         }
     }
 }
 
 // A number, or why there is none.
 #[derive(Drop)]
-struct Told(Read);
+struct Told(Result<u32, ReadError>);
 
 impl fmt::Display for Told {
     fn fmt<W: fmt::Write>(&self, f: &mut fmt::Formatter<W>) -> fmt::Result {
         match self.0 {
-            Read::Value(number) => write!(f, "{number}"),
-            Read::Missing(count) => write!(f, "missing {count}"),
-            Read::TooWide => write!(f, "wide"),
+            Ok(number) => write!(f, "{number}"),
+            Err(ReadError::Missing(count)) => write!(f, "missing {count}"),
+            Err(ReadError::TooWide) => write!(f, "wide"),
         }
     }
 }
@@ -68,8 +68,9 @@ const READS: [(usize, usize, usize, u32); 24] = [
 ];
 
 fn read(rt: &impl Print, bytes: &[u8], count: usize, place: usize, width: u32) -> io::Result<()> {
-    let bit = Shown(bits::read_bit(bytes, count, place));
-    let number = Told(bits::read_bits(bytes, count, place, width));
+    let payload = Payload { bytes, count };
+    let bit = Shown(payload.bit(place));
+    let number = Told(payload.read(place, width));
     let bytes = Hex(bytes);
     println!(rt; "read {bytes} {count} {place} {width} {bit} {number}")
 }

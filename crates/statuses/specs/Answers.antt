@@ -1,6 +1,5 @@
 -- An answer of the papers by value: a status, an offset, a count and a bit; a part of a stream; the number of a kind.
-use Rattle.std.specs.Prelude.{ℕ, ◌+◌, ◌<◌, ◌≡◌, ◌≢◌, List, [], ◌∷◌}
-use Rattle.std.proofs.Math.Option.{Option, none, some}
+use Rattle.std.specs.Prelude.{ℕ, ◌+◌, ◌<◌, ◌≡◌, ◌≢◌, Option, Some, None, List, [], ◌∷◌}
 use Rattle.answers.specs.Answers.{Carried, at_offset, at_bit, missing, Outcome, done, refused, map_done, FULL}
 use Rattle.startcode.specs.declared.Kind.{Kind}
 use Rattle.startcode.specs.declared.Kind.TheVariants.{Slice, SequenceHeader, SequenceEnd, UserData, IPicture, Extension, PBPicture, EditCode}
@@ -31,6 +30,11 @@ bit_in (at_offset n ∷ more) = bit_in more
 bit_in (at_bit n ∷ more) = n
 bit_in (missing n ∷ more) = bit_in more
 
+-- what a refusal with a bit, or without one, carries of it
+abbrev pub carried_bit : Option ℕ → List Carried
+carried_bit None = []
+carried_bit (Some n) = at_bit n ∷ []
+
 -- A status is the papers' number; a refusal hands nothing over.
 abbrev pub counted : Outcome ℕ → Answer
 counted (done n) = record { status = 0; offset = 0; count = n; bit = no_bit }
@@ -54,8 +58,8 @@ AnsweredByReading stream lent after a = ByReading stream lent after (λ n. (a.st
 
 -- where the body of a row lies in the stream; for no row the empty part at the stream's start
 abbrev pub part_at : Option Row → Part
-part_at none = record { offset = 0; length = 0 }
-part_at (some r) = record { offset = r.offset + 4; length = r.length }
+part_at None = record { offset = 0; length = 0 }
+part_at (Some r) = record { offset = r.offset + 4; length = r.length }
 
 -- ── start codes ──
 

@@ -12,7 +12,7 @@ ghost use Rattle.filing.specs.Filing.{words_after};
 ghost use Rattle.filing.specs.Reader.{filed};
 ghost use Rattle.rows.specs.Rows.{existing};
 ghost use Rattle.payload.specs.Escape.{removal, output_after};
-ghost use Rattle.statuses.specs.Answers.{bit_in, counted, filed_answer, part_at, kind_number, kind_answer};
+ghost use Rattle.statuses.specs.Answers.{carried_bit, counted, filed_answer, part_at, kind_number, kind_answer};
 
 use filing::{Checked, FilingAnswer};
 use grammar::Reason;
@@ -32,7 +32,7 @@ pub struct Answer {
 }
 
 // In place of a bit that is not there.
-const NO_BIT: usize = 0xFFFFFFFFFFFFFFFF;
+const NO_BIT: usize = usize::MAX;
 
 // A part of a stream.
 #[repr(C)]
@@ -49,7 +49,7 @@ pub fn handed(count: usize) -> Answer
     Answer {
         status: 0,
         offset: 0,
-        count: count,
+        count,
         bit: NO_BIT,
     }
 }
@@ -59,10 +59,8 @@ pub fn refusal(status: u32) -> Answer
     ensures { result ≡ counted (refused status []) }
 {
     Answer {
-        status: status,
-        offset: 0,
-        count: 0,
-        bit: NO_BIT,
+        status,
+        ..handed(0)
     }
 }
 
@@ -70,14 +68,12 @@ pub fn refusal(status: u32) -> Answer
 
 // The bit that it carries.
 #[tactic(auto, unfolding(bodies::specs::Answers::fault_bit))]
-fn fault_bit(why: Fault) -> usize
-    ensures { result ≡ bit_in (fault_bit why) }
+pub fn fault_bit(why: Fault) -> Option<usize>
+    ensures { carried_bit result ≡ fault_bit why }
 {
     match why {
-        Fault::Short => NO_BIT,
-        Fault::Marker(at) => at,
-        Fault::Value(_, at) => at,
-        Fault::Stuffing => NO_BIT,
+        Fault::Short | Fault::Stuffing => None,
+        Fault::Marker(at) | Fault::Value(_, at) => Some(at),
     }
 }
 
@@ -86,32 +82,21 @@ pub fn refused_body(why: Fault) -> Answer
     ensures { result ≡ counted (refused (fault_number why) (fault_bit why)) }
 {
     Answer {
-        status: bodies::fault_number(why),
-        offset: 0,
-        count: 0,
-        bit: fault_bit(why),
+        bit: fault_bit(why).unwrap_or(NO_BIT),
+        ..refusal(bodies::fault_number(why))
     }
 }
 
 // ── why a stream is refused ──
 
 // The bit that it carries.
-fn reason_bit(why: Reason) -> usize
-    ensures { result ≡ bit_in (reason_bit why) }
+pub fn reason_bit(why: Reason) -> Option<usize>
+    ensures { carried_bit result ≡ reason_bit why }
 {
     match why {
-        Reason::NoCode => NO_BIT,
-        Reason::Cut => NO_BIT,
-        Reason::Overlap => NO_BIT,
-        Reason::Unknown => NO_BIT,
-        Reason::OutOfPlace => NO_BIT,
         Reason::Body(fault) => fault_bit(fault),
-        Reason::SliceOrder => 0,
-        Reason::SliceRow => 0,
-        Reason::Twice => NO_BIT,
-        Reason::Unended => NO_BIT,
-        Reason::Full => NO_BIT,
-        Reason::TooLong => NO_BIT,
+        Reason::SliceOrder | Reason::SliceRow => Some(0),
+        _ => None,
     }
 }
 
@@ -119,12 +104,10 @@ fn reason_bit(why: Reason) -> usize
 pub fn refused_stream(why: filing::Refusal) -> Answer
     ensures { result ≡ counted (refused (reason_number why.reason) (carries why.reason why.offset)) }
 {
-    let reason = why.reason;
     Answer {
-        status: grammar::reason_number(reason),
         offset: why.offset,
-        count: 0,
-        bit: reason_bit(reason),
+        bit: reason_bit(why.reason).unwrap_or(NO_BIT),
+        ..refusal(grammar::reason_number(why.reason))
     }
 }
 
@@ -151,33 +134,19 @@ pub fn check(stream: &[u8]) -> Answer
     }
 }
 
-fn wide(x: u32) -> usize
-    ensures { (result ≡ x) × (result < 4294967296) }
-{
-    x as usize
-}
-
-fn word(words: &[u32], i: usize) -> usize
-    requires { i < length words.now }
-    ensures { (result ≡ get_or words.now i 0) × (result < 4294967296) }
-{
-    wide(words[i])
-}
-
 // Where the body of row i lies in the stream.
 pub fn row_body(stream: &[u8], rows: &[u32], i: usize) -> Part
     ensures { result ≡ part_at (existing stream.now rows.now i) }
 {
-    if rows::row_exists(stream, rows, i) {
-        Part {
-            offset: word(rows, i * 3 + 1) + 4,
-            length: word(rows, i * 3 + 2),
-        }
-    } else {
-        Part {
+    match rows::body_at(stream, rows, i) {
+        Some(body) => Part {
+            offset: body.start,
+            length: body.length,
+        },
+        None => Part {
             offset: 0,
             length: 0,
-        }
+        },
     }
 }
 

@@ -84,7 +84,7 @@ pub fn slice_step(rule: SliceRule, least: u32, code: u8, body: &[u8]) -> Result<
     if all_zero(body) {
         return Err(Reason::Body(Fault::Short));
     }
-    let number = bits::wide(code);
+    let number = u32::from(code);
     if !rule.tested {
         return Ok(State::Slices(rule, number + 1));
     }

@@ -1,14 +1,9 @@
--- What is read so far writes the bits of the bytes passed.
-use Prim.Native.Nat.{◌-◌, ◌*◌, ◌^◌, ◌≤◌, ◌<◌}
+-- What is read so far is what the bytes passed write.
+use Prim.Native.Nat.{◌*◌, ◌^◌, ◌<◌}
 use mathlib.Core.Path.{◌≡◌}
-use lib.ListN.{take, drop}
+use lib.ListN.{take}
 use Rattle.bits.specs.Bits.{bits_in, bits_of}
 use Rattle.bits.proofs.number.Given as goal
 
-abbrev pub invariant-loop-at : goal.invariant-loop-at
-invariant-loop-at l =
-    (l.from ≤ l.at) × (l.at ≤ l.end) × (l.value < 2 ^ ((l.at - l.from) * 8))
-    × (take ((l.at - l.from) * 8) (drop (l.from * 8) (bits_of l.bytes)) ≡ bits_in ((l.at - l.from) * 8) l.value)
-
-abbrev pub decreases-loop-at : goal.decreases-loop-at
-decreases-loop-at l = l.end - l.at
+abbrev pub invariant-loop-byte : goal.invariant-loop-byte
+invariant-loop-byte l = (l.value < 2 ^ (l.byte-index * 8)) × (bits_of (take l.byte-index l.bytes) ≡ bits_in (l.byte-index * 8) l.value)

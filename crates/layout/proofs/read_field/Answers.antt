@@ -5,16 +5,15 @@ use mathlib.Core.Path.{◌≡◌, sym, ap, ◌∙◌}
 use mathlib.Core.List.{List}
 use borrow.Author.Rules.{rules}
 use Rattle.bits.specs.Bits.{bits_of, payload, read_at}
-use Rattle.bits.specs.declared.Read.TheVariants.{Value}
-use Rattle.bits.proofs.BitLaws.{within_value, within_missing, never_wide}
+use Rattle.bits.proofs.BitLaws.{within_value, within_err}
 use Rattle.layout.specs.Layouts.{width_of, rule_of}
 use Rattle.layout.specs.Reader.{Verdict, ◌>>◌, ruled}
 use Rattle.layout.specs.Inside.{taken}
 use Rattle.layout.proofs.ReadingLaws.{read_inside, taken_value, taken_fail}
 use Rattle.layout.proofs.read_field.Goals as goal
-use Rattle.layout.proofs.read_field.Goals.{After-read_bits}
+use Rattle.layout.proofs.read_field.Goals.{After-read}
 
-module _ (c : After-read_bits) where
+module _ (c : After-read) where
   abbrev width : ℕ
   width = width_of c.args.field
 
@@ -29,26 +28,23 @@ module _ (c : After-read_bits) where
   inside = read_inside (bits_of c.args.body.now) c.args.at width
 
   -- a value that is read is judged
-  judged : (v : ℕ) → c.read_bits.result ≡ Value v → taken c.args.field c.args.at (bits_of c.args.body.now) ≡ (ruled (rule_of c.args.field) v c.args.at >> Ok v)
-  judged v r = let a = c.args in taken_value a.field a.at v (bits_of a.body.now) (sym inside ∙ within_value before a.at width narrow v (sym c.read_bits.ensures ∙ r))
+  judged : (v : ℕ) → c.read.result ≡ Ok v → taken c.args.field c.args.at (bits_of c.args.body.now) ≡ (ruled (rule_of c.args.field) v c.args.at >> Ok v)
+  judged v r = let a = c.args in taken_value a.field a.at v (bits_of a.body.now) (sym inside ∙ within_value before a.at width narrow v (sym c.read.ensures ∙ r))
 
-pub returns-in_ok-ruled_on-in-Value : goal.returns-in_ok-ruled_on-in-Value
-returns-in_ok-ruled_on-in-Value c =
-    let e = judged (goal.at.returns-in_ok-ruled_on-in-Value c).After-read_bits _ c.in-Value.is in
-    sym (e ∙ ap (λ (v : Verdict). v >> Ok c.in-Value.value) (sym c.ruled_on.ensures ∙ c.in_ok-ruled_on-in-Value.was))
+pub returns : goal.returns
+returns c =
+    let e = judged (goal.at.returns c).After-read _ c.in-Ok.is in
+    sym (e ∙ ap (λ (v : Verdict). v >> Ok c.in-Ok.value) (sym c.ruled_on.ensures ∙ c.in_ok-ruled_on.was))
 
-pub returns-in_err-ruled_on-in-Value : goal.returns-in_err-ruled_on-in-Value
-returns-in_err-ruled_on-in-Value c =
-    let e = judged (goal.at.returns-in_err-ruled_on-in-Value c).After-read_bits _ c.in-Value.is in
-    let r : c.from_residual.result ≡ Err c.in_err-ruled_on-in-Value.field-0.0 = search rules in
-    r ∙ sym (e ∙ ap (λ (v : Verdict). v >> Ok c.in-Value.value) (sym c.ruled_on.ensures ∙ c.in_err-ruled_on-in-Value.was))
+pub returns-in_err-ruled_on : goal.returns-in_err-ruled_on
+returns-in_err-ruled_on c =
+    let e = judged (goal.at.returns-in_err-ruled_on c).After-read _ c.in-Ok.is in
+    let r : c.from_residual.result ≡ Err c.in_err-ruled_on.field-0.0 = search rules in
+    r ∙ sym (e ∙ ap (λ (v : Verdict). v >> Ok c.in-Ok.value) (sym c.ruled_on.ensures ∙ c.in_err-ruled_on.was))
 
-pub returns-in-Missing : goal.returns-in-Missing
-returns-in-Missing c =
+pub returns-in_default : goal.returns-in_default
+returns-in_default c =
     let a = c.args in
-    let at = (goal.at.returns-in-Missing c).After-read_bits in
-    let m = within_missing (before at) a.at (width at) (narrow at) _ (sym c.read_bits.ensures ∙ c.in-Missing.is) in
-    sym (taken_fail a.field a.at _ (bits_of a.body.now) (sym (inside at) ∙ m))
-
-pub returns-in-TooWide : goal.returns-in-TooWide
-returns-in-TooWide c = let at = (goal.at.returns-in-TooWide c).After-read_bits in never_wide (before at) c.args.at (width at) (narrow at) (sym c.read_bits.ensures ∙ c.in-TooWide.is)
+    let r = (goal.at.returns-in_default c).After-read in
+    let (missing, is, _) = within_err (before r) a.at (width r) (narrow r) _ (sym c.read.ensures ∙ c.in_default.is) in
+    sym (taken_fail a.field a.at missing (bits_of a.body.now) (sym (inside r) ∙ is))

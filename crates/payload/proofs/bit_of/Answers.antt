@@ -4,4 +4,4 @@ use Rattle.payload.proofs.EscapeLaws.{picked}
 use Rattle.payload.proofs.bit_of.Goals as goal
 
 pub returns : goal.returns
-returns c = let a = c.args in picked a.byte c.wide.result a.j c.wide.ensures.0 (search rules)
+returns c = let a = c.args in picked a.byte c.from.result a.j c.from.ensures (search rules)
