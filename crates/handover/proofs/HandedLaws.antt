@@ -1,15 +1,12 @@
 -- Laws of what is handed over.
-use Prim.Native.Nat.{ℕ, zero, suc, ◌+◌, ◌-◌, ◌≤◌, ◌<◌}
+use Prim.Native.Nat.{ℕ, ◌≤◌, ◌<◌}
 use mathlib.Core.Path.{◌≡◌, refl, sym, ap, ◌∙◌, subst}
-use mathlib.Core.List.{List, [], ◌∷◌, ◌++◌, append_assoc, append-nil}
+use mathlib.Core.List.{List, [], ◌++◌, append_assoc}
 use mathlib.Core.Bool.{Bool, cond}
-use native.Mathlib.Numerals.{add-one}
-use native.Mathlib.Nat.{le_refl}
-use native.Mathlib.Omega.{arith}
 use borrow.Author.Tests.{le-leb, lt-leb}
-use borrow.Rule.Slice.PartMut.{mid_of, put_mid}
-use lib.ListN.{length, get_or, take, drop, set, length-append}
-use lib.Seq.{take_all, take_at, drop_at, drop-drop, drop-length}
+use borrow.Rule.Slice.PartMut.{put_mid}
+use lib.ListN.{length, drop, length-append}
+use lib.Seq.{take_at, drop_at, drop-drop}
 use Rattle.answers.specs.Answers.{Carried, Outcome, done, refused, map_done, FULL}
 use Rattle.statuses.specs.declared.Answer.{Answer}
 use Rattle.statuses.specs.Answers.{counted}
@@ -18,26 +15,12 @@ use Rattle.handover.specs.Inside.{Handed}
 
 -- ── numbers in lent memory ──
 
--- one more number is written
-pub write_step : (i : ℕ) (vs ms : List ℕ) → i < length vs → i < length ms → set (take i vs ++ drop i ms) i (get_or vs i 0) ≡ take (i + 1) vs ++ drop (i + 1) ms
-write_step i [] ms h k = absurd (omega arith)
-write_step i (v ∷ vs) [] h k = absurd (omega arith)
-write_step zero (v ∷ vs) (m ∷ ms) h k = refl
-write_step (suc i) (v ∷ vs) (m ∷ ms) h k = let e = write_step i vs ms (omega arith) (omega arith) in rw add-one (ap (λ l. v ∷ l) (rw add-one at e))
-
--- numbers over those that stand after others, in the part of the memory that begins there
-over_part : (us vs rest : List ℕ) (k : ℕ) → k ≡ length rest → put_mid (length us) k (us ++ rest) (over vs (mid_of (length us) k (us ++ rest))) ≡ us ++ over vs rest
-over_part us vs rest k e =
-    (λ i. take_at us rest (length us) refl i ++ (over vs (take k (drop_at us rest (length us) refl i)) ++ drop k (drop_at us rest (length us) refl i)))
-    ∙ ap (λ (j : ℕ). us ++ (over vs (take j rest) ++ drop j rest)) e
-    ∙ (λ i. us ++ (over vs (take_all (length rest) rest (le_refl _) i) ++ drop-length rest i))
-    ∙ ap (λ l. us ++ l) (append-nil _)
-
--- numbers, and then more in the part after them, are all of them over what was lent
-pub over_more : (us vs lent : List ℕ) →
-    put_mid (length us) (length (over us lent) - length us) (over us lent) (over vs (mid_of (length us) (length (over us lent) - length us) (over us lent))) ≡ over (us ++ vs) lent
-over_more us vs lent =
-    over_part us vs (drop (length us) lent) (length (over us lent) - length us) (let e = length-append us (drop (length us) lent) in omega arith)
+-- numbers stand first, and more are put in the part after them
+pub put_after : (us vs lent : List ℕ) (k : ℕ) → k ≡ length vs → put_mid (length us) k (us ++ drop (length us) lent) vs ≡ over (us ++ vs) lent
+put_after us vs lent k e =
+    let rest = drop (length us) lent in
+    (λ i. take_at us rest (length us) refl i ++ (vs ++ drop k (drop_at us rest (length us) refl i)))
+    ∙ ap (λ (j : ℕ). us ++ (vs ++ drop j rest)) e
     ∙ ap (λ l. us ++ (vs ++ l)) (drop-drop (length vs) (length us) lent ∙ ap (λ (n : ℕ). drop n lent) (sym (length-append us vs)))
     ∙ sym (append_assoc us vs _)
 

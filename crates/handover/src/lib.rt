@@ -18,27 +18,8 @@ use groups::{Display, GroupAnswer};
 use ratios::Fraction;
 use statuses::Answer;
 
-fn long(x: u32) -> u64
-    ensures { result ≡ x }
-{
-    x as u64
-}
-
-// The values are written over the first numbers.
-fn write_over(values: &[u32], numbers: &mut [u64])
-    requires { length values.now ≤ length numbers.old }
-    ensures { numbers.new ≡ over values.now numbers.old }
-{
-    let n = values.len();
-    let mut i: usize = 0;
-    while i < n {
-        numbers[i] = long(values[i]);
-        i += 1;
-    }
-}
-
 // Values and those after them are handed over where there is room for all, and FULL is answered where there is not.
-fn hand_both(values: &[u32], more: &[u32], numbers: &mut [u64]) -> Answer
+fn hand_both(values: &[u64], more: &[u64], numbers: &mut [u64]) -> Answer
     requires { (length values.now ≤ 14) × (length more.now ≤ 8) }
     ensures { Handed result numbers.new (done (values.now ++ more.now)) numbers.old }
 {
@@ -47,12 +28,12 @@ fn hand_both(values: &[u32], more: &[u32], numbers: &mut [u64]) -> Answer
     if numbers.len() < count {
         return statuses::refusal(12);
     }
-    write_over(values, numbers);
-    write_over(more, &mut numbers[n..]);
+    numbers[..n].copy_from_slice(values);
+    numbers[n..n + more.len()].copy_from_slice(more);
     statuses::handed(count)
 }
 
-fn hand_over(values: &[u32], numbers: &mut [u64]) -> Answer
+fn hand_over(values: &[u64], numbers: &mut [u64]) -> Answer
     requires { length values.now ≤ 14 }
     ensures { Handed result numbers.new (done values.now) numbers.old }
 {
@@ -60,7 +41,8 @@ fn hand_over(values: &[u32], numbers: &mut [u64]) -> Answer
 }
 
 // Values, and after them the numbers of a display extension.
-fn hand_display(values: &[u32], d: DisplayExtension, numbers: &mut [u64]) -> Answer
+#[tactic(auto, unfolding(crate::specs::Numbers::display_numbers))]
+fn hand_display(values: &[u64], d: DisplayExtension, numbers: &mut [u64]) -> Answer
     requires { length values.now ≤ 14 }
     ensures { Handed result numbers.new (done (values.now ++ display_numbers d)) numbers.old }
 {
@@ -69,35 +51,37 @@ fn hand_display(values: &[u32], d: DisplayExtension, numbers: &mut [u64]) -> Ans
         Colour::Given(primaries, transfer, matrix) => {
             let shown = [
                 d.format, d.range, d.width, d.height, d.stereo, primaries, transfer, matrix,
-            ];
+            ]
+            .map(u64::from);
             hand_both(values, &shown, numbers)
         }
         Colour::NotGiven => {
-            let shown = [d.format, d.range, d.width, d.height, d.stereo];
+            let shown = [d.format, d.range, d.width, d.height, d.stereo].map(u64::from);
             hand_both(values, &shown, numbers)
         }
     }
 }
 
 // A group's numbers.
+#[tactic(auto, unfolding(crate::specs::Numbers::header_numbers))]
 fn hand_group(h: SequenceHeader, display: Display, numbers: &mut [u64]) -> Answer
     ensures { Handed result numbers.new (done (header_numbers h ++ shown_numbers display)) numbers.old }
 {
     let values = [
-        h.profile,
-        h.level,
-        h.progressive,
-        h.horizontal,
-        h.vertical,
-        h.chroma,
-        h.precision,
-        h.aspect,
-        h.rate,
-        h.bitrate,
-        h.delay,
-        h.buffer,
-        macroblocks::macroblock_columns(h),
-        macroblocks::macroblock_rows(h),
+        u64::from(h.profile),
+        u64::from(h.level),
+        u64::from(h.progressive),
+        u64::from(h.horizontal),
+        u64::from(h.vertical),
+        u64::from(h.chroma),
+        u64::from(h.precision),
+        u64::from(h.aspect),
+        u64::from(h.rate),
+        u64::from(h.bitrate),
+        u64::from(h.delay),
+        u64::from(h.buffer),
+        u64::from(macroblocks::macroblock_columns(h)),
+        u64::from(macroblocks::macroblock_rows(h)),
     ];
     match display {
         Display::Given(d) => hand_display(&values, d, numbers),
@@ -106,24 +90,29 @@ fn hand_group(h: SequenceHeader, display: Display, numbers: &mut [u64]) -> Answe
 }
 
 // The number 4, and after it the numbers of a copyright extension, of which the last is a long one.
+#[tactic(auto, unfolding(crate::specs::Numbers::copyright_numbers))]
 fn hand_copyright(c: CopyrightExtension, numbers: &mut [u64]) -> Answer
     ensures { Handed result numbers.new (done (4 ∷ copyright_numbers c)) numbers.old }
 {
-    if numbers.len() < 5 {
-        return statuses::refusal(12);
-    }
-    let values = [4, c.flag, c.owner, c.original];
-    write_over(&values, numbers);
-    numbers[4] = c.number;
-    statuses::handed(5)
+    let values = [
+        4,
+        u64::from(c.flag),
+        u64::from(c.owner),
+        u64::from(c.original),
+        c.number,
+    ];
+    hand_over(&values, numbers)
 }
 
 fn hand_ratio(ratio: Option<Fraction>, numbers: &mut [u64]) -> Answer
     ensures { Handed result numbers.new (done (ratio_numbers ratio)) numbers.old }
 {
     match ratio {
-        Some(Fraction(numerator, denominator)) => hand_over(&[numerator, denominator], numbers),
-        None => statuses::handed(0),
+        Some(Fraction(numerator, denominator)) => hand_over(
+            &[numerator, denominator].map(u64::from),
+            numbers,
+        ),
+        None => hand_over(&[], numbers),
     }
 }
 
@@ -164,7 +153,7 @@ pub fn extension(body: &[u8], head: bool, numbers: &mut [u64]) -> Answer
     match bodies::extension(body, scope_for(head)) {
         ExtensionAnswer::Display(d) => hand_display(&[2], d, numbers),
         ExtensionAnswer::Copyright(c) => hand_copyright(c, numbers),
-        ExtensionAnswer::Opaque(number) => hand_over(&[number], numbers),
+        ExtensionAnswer::Opaque(number) => hand_over(&[u64::from(number)], numbers),
         ExtensionAnswer::Refused(why) => statuses::refused_body(why),
     }
 }

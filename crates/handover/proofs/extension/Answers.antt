@@ -27,7 +27,8 @@ returns-in-Copyright c =
 pub returns-in-Opaque : goal.returns-in-Opaque
 unfolding extension_says extension_gives answer_of
 returns-in-Opaque c =
-    let h = arm_hands extension_numbers extension_says c.args.numbers.now c.in-Opaque.is (read (goal.at.returns-in-Opaque c).After-extension) c.hand_over.ensures in
+    let o = rw c.from.ensures at c.hand_over.ensures in
+    let h = arm_hands extension_numbers extension_says c.args.numbers.now c.in-Opaque.is (read (goal.at.returns-in-Opaque c).After-extension) o in
     record { answer = h.0; numbers = h.1 }
 
 pub returns-in-Refused : goal.returns-in-Refused
