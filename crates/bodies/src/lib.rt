@@ -5,8 +5,8 @@ ghost use Rattle.std.specs.Prelude.{◌≡◌};
 ghost use Rattle.bits.specs.Bits.{bits_of, bit_at};
 ghost use Rattle.layout.specs.Reader.{read_value};
 ghost use Rattle.bodies.specs.Extensions.{numbered, is_opaque};
-ghost use Rattle.bodies.specs.Reader.{header_of, plain_of, coloured_of, copyright_of, display_short, display_of, number_of, by_number, extension_of};
-ghost use Rattle.bodies.specs.Answers.{fault_number, answer_of};
+ghost use Rattle.bodies.specs.Reader.{header_result, plain_of, coloured_of, copyright_of, display_short, display_of, number_of, by_number, extension_result};
+ghost use Rattle.bodies.specs.Answers.{fault_number};
 
 use bits::Payload;
 use layout::{Fault, Layout};
@@ -84,7 +84,7 @@ pub fn fault_number(why: Fault) -> u32
 
 // A sequence header's body: its record, or its refusal.
 pub fn sequence_header(body: &[u8]) -> Result<SequenceHeader, Fault>
-    ensures { answer_of result ≡ header_of body.now }
+    ensures { result ≡ header_result body.now }
 {
     let [
         profile,
@@ -267,9 +267,9 @@ fn by_number(number: u32, body: &[u8], scope: Scope) -> Result<ExtensionBody, Fa
 }
 
 // An extension's body: its record, or of an opaque one its number, or its refusal.
-#[tactic(auto, unfolding(crate::specs::Reader::extension_of, crate::specs::Reader::extension_result))]
+#[tactic(auto, unfolding(crate::specs::Reader::extension_result))]
 pub fn extension(body: &[u8], scope: Scope) -> Result<ExtensionBody, Fault>
-    ensures { answer_of result ≡ extension_of scope body.now }
+    ensures { result ≡ extension_result scope body.now }
 {
     by_number(number_of(body)?, body, scope)
 }

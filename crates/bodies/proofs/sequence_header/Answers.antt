@@ -1,4 +1,4 @@
--- The body's values in their order are the record's, and it is said of the body.
+-- The body's values in their order are the record's.
 use Rattle.std.proofs.Common.{Err}
 use Prim.Native.Nat.{ℕ, ◌^◌, ◌<◌}
 use mathlib.Core.Path.{◌≡◌, sym, ap, subst, ◌∙◌}
@@ -10,9 +10,7 @@ use Rattle.layout.specs.Layouts.{header_fields, fields}
 use Rattle.layout.specs.Obeys.{Fits}
 use Rattle.layout.specs.declared.Layout.TheVariants.{Header}
 use Rattle.layout.proofs.LayoutLaws.{fits_at, spell, spelled}
-use Rattle.bodies.specs.Answers.{answer_of}
 use Rattle.bodies.specs.Records.{header_record}
-use Rattle.bodies.specs.Reader.{header_of}
 use Rattle.bodies.proofs.AnswerLaws.{held, record_refused, record_made}
 use Rattle.bodies.proofs.sequence_header.Goals as goal
 use Rattle.bodies.proofs.sequence_header.Goals.{In_ok-profile}
@@ -42,16 +40,14 @@ pub overflow_add-bitrate : goal.overflow_add-bitrate
 overflow_add-bitrate c = let at = (goal.at.overflow_add-bitrate c).In_ok-profile in omega (arith, low at, high at)
 
 pub returns-in_err-profile : goal.returns-in_err-profile
-unfolding header_of
 returns-in_err-profile c =
     let r : c.from_residual.result ≡ Err c.in_err-profile.field-0.0 = search rules in
-    ap answer_of (r ∙ sym (record_refused Header c.args.body.now c.read_body.result c.read_body.ensures header_record _ c.in_err-profile.was))
+    r ∙ sym (record_refused Header c.args.body.now c.read_body.result c.read_body.ensures header_record _ c.in_err-profile.was)
 
 pub returns : goal.returns
-unfolding header_of header_record fields
+unfolding header_record fields
 returns c =
     let values = c.in_ok-profile.field-0 in
-    ap answer_of
-    (sym
+    sym
     (record_made Header c.args.body.now c.read_body.result c.read_body.ensures values c.in_ok-profile.was header_record _
-    (ap (λ (l : List ℕ). header_record (take 16 l)) (spelled 16 values (all (goal.at.returns c).In_ok-profile)))))
+    (ap (λ (l : List ℕ). header_record (take 16 l)) (spelled 16 values (all (goal.at.returns c).In_ok-profile))))
