@@ -18,7 +18,7 @@ use Rattle.bits.proofs.WordLaws.{Ahead, ahead_same, ahead_past, ahead_bit, word_
 use Rattle.bits.specs.Reader.{word_at}
 use Rattle.renorm.specs.Reader.{doublings_of, needed_of, left_of, shifted_of, renormalise_of}
 use Rattle.renorm.specs.declared.Registers.{Registers}
-use Rattle.renorm.specs.declared.Renormalised.TheVariants.{Done}
+use Rattle.std.specs.Prelude.{Some}
 use Rattle.renorm.proofs.CountLaws.{Doubles, Needs, doubles, needs_bits}
 use Rattle.renorm.proofs.ShiftedLaws.{left_near, done_holds, word_of}
 use Rattle.aec.specs.Bins.{shifts, normalise_of, widen_of, settle_of, remainder_of, unpredicted_of}
@@ -171,7 +171,7 @@ number_small x y left v h i j =
 -- by the bits that were read
 by_word : (bits : List ℕ) (x : State) (y : Split) (z : Registers) (v width : ℕ) → x.vt ≤ 255 → y.t ≤ 255 → 1 ≤ y.range → y.range < 512
     → 25 ≤ width → width ≤ 32 → v < 2 ^ width → Ahead bits x.place width v
-    → (let left = left_of width (not (eqb y.s x.vs)) in shifted_of (head_of x y * 2 ^ left + v) left width y.range ≡ Done z)
+    → (let left = left_of width (not (eqb y.s x.vs)) in shifted_of (head_of x y * 2 ^ left + v) left width y.range ≡ Some z)
     → done (record { rs = 0; rt = z.rt; vs = z.vs; vt = z.vt; place = x.place + z.taken }) ≡ unpredicted_of bits x y
 by_word bits x y z v width small fits some few least most fit a e =
     let left = left_of width (not (eqb y.s x.vs)) in
@@ -186,7 +186,7 @@ by_word bits x y z v width small fits some few least most fit a e =
 
 -- what renormalisation answers is that state
 pub quick_state : (s : List ℕ) (count : ℕ) (x : State) (y : Split) (z : Registers) → x.vt ≤ 255 → y.t ≤ 255 → 1 ≤ y.range → y.range < 512
-    → renormalise_of (payload s count) x.place (head_of x y) (not (eqb y.s x.vs)) y.range ≡ Done z
+    → renormalise_of (payload s count) x.place (head_of x y) (not (eqb y.s x.vs)) y.range ≡ Some z
     → done (record { rs = 0; rt = z.rt; vs = z.vs; vt = z.vt; place = x.place + z.taken }) ≡ unpredicted_of (payload s count) x y
 quick_state s count x y z small fits some few e =
     let (v, width, is, whole) = word_of (word_at (payload s count) x.place) (head_of x y) y.range (not (eqb y.s x.vs)) z e in

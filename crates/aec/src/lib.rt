@@ -17,7 +17,6 @@ ghost use Rattle.aec.specs.Inside.{bin_by, own_prediction, good_pair, pair_predi
 
 use bits::{Payload, ReadError};
 use contexts::Context;
-use renorm::Renormalised;
 
 // Document 01's rS, rT, valueS and valueT, and the place of the next bit.
 #[repr(C)]
@@ -306,8 +305,9 @@ fn quick(bytes: &[u8], count: usize, x: State, p: u32, y: Split) -> Option<Stepp
     ensures { Quickly result (bin_of (payload bytes.now count) x p y) }
 {
     let head = head_of(x, y);
-    match renorm::renormalise(bytes, count, x.place, head, y.s != x.vs, y.range) {
-        Renormalised::Done(z) => Some(Stepped {
+    let bits = Payload { bytes, count };
+    match renorm::renormalise(&bits, x.place, head, y.s != x.vs, y.range) {
+        Some(z) => Some(Stepped {
             bin: 1 - p,
             state: State {
                 rs: 0,
@@ -317,7 +317,7 @@ fn quick(bytes: &[u8], count: usize, x: State, p: u32, y: Split) -> Option<Stepp
                 place: x.place + z.taken as usize,
             },
         }),
-        Renormalised::Short => None,
+        None => None,
     }
 }
 

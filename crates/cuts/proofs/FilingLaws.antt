@@ -1,5 +1,5 @@
 -- What filing answers of what is left.
-use Rattle.std.proofs.Common.{Ok}
+use Rattle.std.proofs.Common.{Result, Ok, Err}
 use Prim.Native.Nat.{ℕ, ◌*◌, ◌≤◌}
 use mathlib.Core.Path.{◌≡◌, refl, sym, ◌∙◌, ap}
 use mathlib.Core.List.{List, []}
@@ -15,11 +15,10 @@ use Rattle.grammar.specs.declared.Reason.{Reason}
 use Rattle.grammar.specs.declared.Reason.TheVariants as reason
 use Rattle.grammar.proofs.Main.{walked_iff}
 use Rattle.grammar.proofs.RowLaws.{rows_length}
+use Rattle.filing.specs.declared.Refusal.{Refusal}
 use Rattle.filing.specs.Filing.{totals, FiledByReading}
 use Rattle.filing.specs.Reader.{filed}
 use Rattle.filing.specs.declared.Totals.{Totals}
-use Rattle.filing.specs.declared.FilingAnswer.{FilingAnswer}
-use Rattle.filing.specs.declared.FilingAnswer.TheVariants as answer
 use Rattle.filing.proofs.Demand.{into_good, into_bad}
 use Rattle.cuts.specs.Cuts.{FiledAs, RefusedAs}
 use Rattle.cuts.specs.Reader.{FiledWith, RefusedFor}
@@ -51,26 +50,26 @@ stopped_refused s why e = record {
 
 -- ── by the promise of `file` ──
 
-pub read_file : (s : List ℕ) (q : Reading) → Reads s q → length s ≤ longest_stream → (lent after : List ℕ) (a : FilingAnswer) → FiledByReading s lent after a → 3 * length (rows q) ≤ length lent →
+pub read_file : (s : List ℕ) (q : Reading) → Reads s q → length s ≤ longest_stream → (lent after : List ℕ) (a : Result Totals Refusal) → FiledByReading s lent after a → 3 * length (rows q) ≤ length lent →
     FiledAs (rows q) lent after a
 read_file s q h short lent after a p room =
     let e : length (units q) ≡ length (rows q) = sym (rows_count q) in
     let f = (p.filed (length (rows q))).1 (short, (q, h, e), room) in
     (f, p.rows (length (rows q)) f q h)
 
-pub unread_file : (s : List ℕ) → ((q : Reading) → ¬ Reads s q) → (lent after : List ℕ) (a : FilingAnswer) → FiledByReading s lent after a → RefusedAs lent after a
-unread_file s none lent after (answer.Filed t) p = let k = (p.filed t.units).0 refl in absurd (none k.1.0 k.1.1)
-unread_file s none lent after (answer.Refused why) p = ((why, refl), p.kept why refl)
+pub unread_file : (s : List ℕ) → ((q : Reading) → ¬ Reads s q) → (lent after : List ℕ) (a : Result Totals Refusal) → FiledByReading s lent after a → RefusedAs lent after a
+unread_file s none lent after (Ok t) p = let k = (p.filed t.units).0 refl in absurd (none k.1.0 k.1.1)
+unread_file s none lent after (Err why) p = ((why, refl), p.kept why refl)
 
 -- what is filed is within the limit, and so is what is left of it
-pub within_drop : (stream lent after : List ℕ) (t : Totals) → FiledByReading stream lent after (answer.Filed t) → (n : ℕ) → length (drop n stream) ≤ longest_stream
+pub within_drop : (stream lent after : List ℕ) (t : Totals) → FiledByReading stream lent after (Ok t) → (n : ℕ) → length (drop n stream) ≤ longest_stream
 within_drop stream lent after t p n =
     let k = ((p.filed t.units).0 refl).0 in
     let d = length-drop n stream in
     omega arith
 
 -- the words that held all rows hold no more of them
-pub enough : (stream lent after : List ℕ) (t : Totals) → FiledByReading stream lent after (answer.Filed t) → (r : Reading) → Reads stream r → (m : ℕ) → m ≤ length (rows r) → 3 * m ≤ length lent
+pub enough : (stream lent after : List ℕ) (t : Totals) → FiledByReading stream lent after (Ok t) → (r : Reading) → Reads stream r → (m : ℕ) → m ≤ length (rows r) → 3 * m ≤ length lent
 enough stream lent after t p r h m l =
     let k = (p.filed t.units).0 refl in
     let u : length (units r) ≡ t.units = ap (λ (y : Reading). length (units y)) (p.one r k.1.0 h k.1.1) ∙ k.1.2 in

@@ -1,4 +1,5 @@
 -- Document 02, E12: what follows a sequence header's start code is filed, and what follows any other place never is.
+use Rattle.std.proofs.Common.{Result, Ok}
 use Prim.Native.Nat.{ℕ, ◌*◌, ◌≤◌}
 use mathlib.Core.Path.{◌≡◌, refl, sym, ap, subst}
 use mathlib.Core.Logic.{◌↔◌, ◌⊎◌, inl, inr}
@@ -13,10 +14,9 @@ use Rattle.grammar.specs.Refusals.{HasCode, Refuses}
 use Rattle.grammar.specs.declared.Reason.{Reason}
 use Rattle.grammar.specs.declared.Reason.TheVariants as reason
 use Rattle.grammar.proofs.Main.{same_reading, stopped_iff}
+use Rattle.filing.specs.declared.Refusal.{Refusal}
 use Rattle.filing.specs.Filing.{FiledByReading}
 use Rattle.filing.specs.declared.Totals.{Totals}
-use Rattle.filing.specs.declared.FilingAnswer.{FilingAnswer}
-use Rattle.filing.specs.declared.FilingAnswer.TheVariants as answer
 use Rattle.cuts.specs.Cuts.{StartAt, HeaderAt, CutAt, rest, rows_from_cut, rows_left, AtOnce, FiledAs, RefusedAs}
 use Rattle.cuts.specs.Reader.{FiledWith, RefusedFor}
 use Rattle.cuts.proofs.RestLaws as left
@@ -45,7 +45,7 @@ cut_filed stream r n h c short lent room =
 
 -- by `file`'s own promise too,
 pub cut_file : (stream : List ℕ) (r : Reading) (n : ℕ) → Reads stream r → (c : CutAt r n) → length (drop n stream) ≤ longest_stream →
-    (lent after : List ℕ) (a : FilingAnswer) → FiledByReading (drop n stream) lent after a → 3 * length (rows_left r c) ≤ length lent → FiledAs (rows_left r c) lent after a
+    (lent after : List ℕ) (a : Result Totals Refusal) → FiledByReading (drop n stream) lent after a → 3 * length (rows_left r c) ≤ length lent → FiledAs (rows_left r c) lent after a
 cut_file stream r n h c short lent after a p room =
     let e = cut_rows r n c in
     subst (λ (rs : List Row). FiledAs rs lent after a) e (files.read_file (drop n stream) (rest r c) (cut_reads stream r n h c) short lent after a p (rw e room))
@@ -82,7 +82,7 @@ pub past_end : (stream : List ℕ) (n : ℕ) → length stream ≤ n → Refuses
 past_end stream n h = subst (λ (l : List ℕ). Refuses l reason.NoCode 0) (sym (drop_of_length-le stream {i = n} h)) files.nothing_refused
 
 -- By `file`'s own promise it is refused, and the words lent stay.
-pub elsewhere_file : (stream : List ℕ) (r : Reading) (n : ℕ) → Reads stream r → ¬ CutAt r n → (lent after : List ℕ) (a : FilingAnswer) → FiledByReading (drop n stream) lent after a → RefusedAs lent after a
+pub elsewhere_file : (stream : List ℕ) (r : Reading) (n : ℕ) → Reads stream r → ¬ CutAt r n → (lent after : List ℕ) (a : Result Totals Refusal) → FiledByReading (drop n stream) lent after a → RefusedAs lent after a
 elsewhere_file stream r n h other = files.unread_file (drop n stream) (elsewhere_unread stream r n h other)
 
 -- ── both ──
@@ -98,8 +98,8 @@ pub header_iff : (stream : List ℕ) (r : Reading) (n : ℕ) → Reads stream r 
 header_iff stream r n h = (places.cut_headers stream r n h, places.header_cuts stream r n h)
 
 -- Of a filed stream, in the words that held its rows: at every place and past its end one or the other.
-pub every_place : (stream lent after : List ℕ) (t : Totals) → FiledByReading stream lent after (answer.Filed t) → (r : Reading) → Reads stream r →
-    (n : ℕ) (after' : List ℕ) (a : FilingAnswer) → FiledByReading (drop n stream) lent after' a →
+pub every_place : (stream lent after : List ℕ) (t : Totals) → FiledByReading stream lent after (Ok t) → (r : Reading) → Reads stream r →
+    (n : ℕ) (after' : List ℕ) (a : Result Totals Refusal) → FiledByReading (drop n stream) lent after' a →
     ((c : CutAt r n) × FiledAs (rows_left r c) lent after' a) ⊎ ((¬ CutAt r n) × RefusedAs lent after' a)
 every_place stream lent after t p r h n after' a q = elim (places.place_of stream r n h) [
   | inl c ↦ inl (c, cut_file stream r n h c (files.within_drop stream lent after t p n) lent after' a q (files.enough stream lent after t p r h _ (fewer_rows r n c)))

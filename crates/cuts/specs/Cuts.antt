@@ -1,15 +1,14 @@
 -- Document 02, E12: "drop everything before any of its B0 start codes".
-use Rattle.std.specs.Prelude.{ℕ, ◌-◌, ◌≡◌, ◌≢◌, ◌⊎◌, List, [], ◌∷◌, ◌++◌, map, length, drop}
+use Rattle.std.specs.Prelude.{ℕ, ◌-◌, ◌≡◌, ◌≢◌, ◌⊎◌, List, [], ◌∷◌, ◌++◌, map, length, drop, Result, Ok, Err}
 use Rattle.answers.specs.Answers.{done}
 use Rattle.grammar.specs.Lists.{concat_map}
 use Rattle.grammar.specs.Grammar.{StreamUnit, bytes, Group, Reading, group_units}
 use Rattle.grammar.specs.Rows.{Row, rows}
 use Rattle.grammar.specs.declared.Reason.{Reason}
 use Rattle.grammar.specs.declared.Reason.TheVariants as reason
+use Rattle.filing.specs.declared.Totals.{Totals}
 use Rattle.filing.specs.Filing.{words_after}
 use Rattle.filing.specs.declared.Refusal.{Refusal}
-use Rattle.filing.specs.declared.FilingAnswer.{FilingAnswer}
-use Rattle.filing.specs.declared.FilingAnswer.TheVariants as answer
 
 -- ── places ──
 
@@ -58,9 +57,9 @@ abbrev pub AtOnce : Reason → Type 0
 AtOnce why = (why ≡ reason.TooLong) ⊎ (why ≡ reason.NoCode) ⊎ (why ≡ reason.OutOfPlace)
 
 -- filed, with these rows in the first of the words lent
-abbrev pub FiledAs : List Row → List ℕ → List ℕ → FilingAnswer → Type 0
-FiledAs rs lent after a = (a ≡ answer.Filed (record { units = length rs })) × (after ≡ words_after (done rs) lent)
+abbrev pub FiledAs : List Row → List ℕ → List ℕ → Result Totals Refusal → Type 0
+FiledAs rs lent after a = (a ≡ Ok (record { units = length rs })) × (after ≡ words_after (done rs) lent)
 
 -- refused, with all words as they were
-abbrev pub RefusedAs : List ℕ → List ℕ → FilingAnswer → Type 0
-RefusedAs lent after a = ((why : Refusal) × (a ≡ answer.Refused why)) × (after ≡ lent)
+abbrev pub RefusedAs : List ℕ → List ℕ → Result Totals Refusal → Type 0
+RefusedAs lent after a = ((why : Refusal) × (a ≡ Err why)) × (after ≡ lent)

@@ -20,9 +20,8 @@ use Rattle.macroblocks.specs.Macroblocks.{macroblock_columns, macroblock_rows}
 use Rattle.grammar.specs.Rows.{words}
 use Rattle.grammar.specs.Reader.{filing}
 use Rattle.rows.specs.Rows.{row_exists, row_body}
+use Rattle.bodies.specs.declared.DisplayExtension.{DisplayExtension}
 use Rattle.groups.specs.Reader.{group_at}
-use Rattle.groups.specs.declared.Display.{Display}
-use Rattle.groups.specs.declared.Display.TheVariants as shown
 use Rattle.payload.specs.Golomb.{stands_for}
 use Rattle.payload.specs.Reader.{golomb}
 use Rattle.rates.specs.declared.Rate.{Rate}
@@ -268,9 +267,9 @@ abbrev pub part_of : List ℕ → List ℕ → ℕ → Outcome (List ℕ)
 part_of stream rows i = done (row_body stream rows i)
 
 -- the display extension's numbers, where it is given
-abbrev pub display_given : Display → List ℕ
-display_given (shown.Given d) = extension_numbers (display d)
-display_given shown.NotGiven = []
+abbrev pub display_given : Option DisplayExtension → List ℕ
+display_given (Some d) = extension_numbers (display d)
+display_given None = []
 
 -- header and display extension of group g
 abbrev pub group_is : List ℕ → ℕ → Outcome (List ℕ)

@@ -1,5 +1,5 @@
 -- What filing answers, in the grammar's words.
-use Rattle.std.proofs.Common.{Ok, Err}
+use Rattle.std.proofs.Common.{Result, Ok, Err}
 use Prim.Native.Nat.{ℕ, ◌≤◌, ◌<◌, ◌*◌}
 use mathlib.Core.Path.{◌≡◌, refl, sym, ◌∙◌, ap}
 use mathlib.Core.Logic.{◌↔◌}
@@ -33,13 +33,9 @@ use Rattle.grammar.proofs.LentLaws as grammar_lent
 use Rattle.grammar.proofs.Refusals.{said_refused, said_iff, stopped_iff, into_stopped_iff}
 use Rattle.grammar.proofs.RowLaws.{rows_length, units_length}
 use Rattle.grammar.proofs.Unique.{same_reading}
-use Rattle.filing.specs.Filing.{totals, words_after, filing_says, checked_says, ReadingOf, FiledByReading, ByReading}
+use Rattle.filing.specs.Filing.{totals, words_after, filing_says, ReadingOf, FiledByReading, ByReading}
 use Rattle.filing.specs.Reader.{filed}
 use Rattle.filing.specs.Inside.{checked_gives}
-use Rattle.filing.specs.declared.Checked.{Checked}
-use Rattle.filing.specs.declared.Checked.TheVariants as checked
-use Rattle.filing.specs.declared.FilingAnswer.{FilingAnswer}
-use Rattle.filing.specs.declared.FilingAnswer.TheVariants as answer
 use Rattle.filing.specs.declared.Refusal.{Refusal}
 use Rattle.filing.specs.declared.Totals.{Totals}
 
@@ -75,11 +71,11 @@ good_into = grammar_lent.good_into
 
 -- ── what the first pass says ──
 
-pub said_checked : (w : Walk) (c : Checked) → checked_gives c ≡ map_ok length w → checked_says c ≡ said length w
-said_checked (Ok ms) (checked.Good n) e = ap done (ok_same e)
-said_checked (Ok ms) (checked.Refused r) e = not_ok e
-said_checked (Err x) (checked.Good n) e = not_err e
-said_checked (Err x) (checked.Refused r) e = ap (λ (x : Stopped). refused (reason_number x.reason) (carries x.reason x.offset)) (err_same e)
+pub said_checked : (w : Walk) (c : Result ℕ Refusal) → checked_gives c ≡ map_ok length w → filing_says c ≡ said length w
+said_checked (Ok ms) (Ok n) e = ap done (ok_same e)
+said_checked (Ok ms) (Err r) e = not_ok e
+said_checked (Err x) (Ok n) e = not_err e
+said_checked (Err x) (Err r) e = ap (λ (x : Stopped). refused (reason_number x.reason) (carries x.reason x.offset)) (err_same e)
 
 -- ── answers and their numbers ──
 
@@ -130,27 +126,16 @@ pub refusal_undone : (r : Refusal) → refusal_of (reason_number r.reason) (carr
 unfolding refusal_of offset_of
 refusal_undone r = ap (λ (w : Reason). record { reason = w; offset = r.offset }) (reason_undone r.reason)
 
-pub filing_one_to_one : OneToOne filing_says
-filing_one_to_one = undone filing_says back is
+pub filing_one_to_one : {A : Type 0} → OneToOne (filing_says {A = A})
+filing_one_to_one {A} = undone filing_says back is
   where
-    back : Outcome Totals → FilingAnswer
-    back (done t) = answer.Filed t
-    back (refused n carried) = answer.Refused (refusal_of n carried)
+    back : Outcome A → Result A Refusal
+    back (done a) = Ok a
+    back (refused n carried) = Err (refusal_of n carried)
 
-    is : (a : FilingAnswer) → back (filing_says a) ≡ a
-    is (answer.Filed t) = refl
-    is (answer.Refused r) = ap answer.Refused (refusal_undone r)
-
-pub checked_one_to_one : OneToOne checked_says
-checked_one_to_one = undone checked_says back is
-  where
-    back : Outcome ℕ → Checked
-    back (done n) = checked.Good n
-    back (refused n carried) = checked.Refused (refusal_of n carried)
-
-    is : (a : Checked) → back (checked_says a) ≡ a
-    is (checked.Good n) = refl
-    is (checked.Refused r) = ap checked.Refused (refusal_undone r)
+    is : (a : Result A Refusal) → back (filing_says a) ≡ a
+    is (Ok a) = refl
+    is (Err r) = ap Err (refusal_undone r)
 
 -- ── demand 3 ──
 
@@ -224,37 +209,37 @@ module _ (s lent after : List ℕ) (words_are : after ≡ words_after (filing_in
       one = same_reading s;
     }
 
-abbrev full_answer : FilingAnswer
-full_answer = answer.Refused (record { reason = reason.Full; offset = 0 })
+abbrev full_answer : Result Totals Refusal
+full_answer = Err (record { reason = reason.Full; offset = 0 })
 
 -- `file`'s own answer says it in this way
-pub filed_by_iff : (s lent after : List ℕ) (r : FilingAnswer) →
+pub filed_by_iff : (s lent after : List ℕ) (r : Result Totals Refusal) →
     FiledByReading s lent after r
-    ↔ ByReading s lent after (λ n. r ≡ answer.Filed (record { units = n })) (r ≡ answer.Refused (record { reason = reason.Full; offset = 0 })) ((why : Refusal) × (r ≡ answer.Refused why))
+    ↔ ByReading s lent after (λ n. r ≡ Ok (record { units = n })) (r ≡ Err (record { reason = reason.Full; offset = 0 })) ((why : Refusal) × (r ≡ Err why))
 filed_by_iff s lent after r = (
   (λ f. record { filed = f.filed; full = f.full; rows = f.rows; kept = λ (why, e). f.kept why e; one = f.one }),
   λ b. record { filed = b.filed; full = b.full; rows = b.rows; kept = λ why e. b.kept (why, e); one = b.one },
 )
 
-pub demand : (s lent after : List ℕ) (r : FilingAnswer) → filing_says r ≡ filed s (length lent) → after ≡ words_after (filing_into s (length lent)) lent → FiledByReading s lent after r
+pub demand : (s lent after : List ℕ) (r : Result Totals Refusal) → filing_says r ≡ filed s (length lent) → after ≡ words_after (filing_into s (length lent)) lent → FiledByReading s lent after r
 demand s lent after r says words_are =
     (filed_by_iff s lent after r).1
     (by_reading s lent after words_are _ _ _
-    (λ n. ((λ e. sym says ∙ ap filing_says e), λ e. filing_one_to_one r (answer.Filed (record { units = n })) (says ∙ e)))
+    (λ n. ((λ e. sym says ∙ ap filing_says e), λ e. filing_one_to_one r (Ok (record { units = n })) (says ∙ e)))
     (λ e. (at_offset 0 ∷ [], sym says ∙ ap filing_says e))
     (λ e. filing_one_to_one r full_answer (says ∙ e))
     (λ (why, e). (reason_number why.reason, carries why.reason why.offset, sym says ∙ ap filing_says e)))
 
 -- ── refusals ──
 
-pub refused_by : (s : List ℕ) (lent : ℕ) (r : FilingAnswer) → filing_says r ≡ filed s lent → (why : Refusal) → (r ≡ answer.Refused why) ↔ ByNumber (RefusesInto s lent) (reason_number why.reason) (carries why.reason why.offset)
+pub refused_by : (s : List ℕ) (lent : ℕ) (r : Result Totals Refusal) → filing_says r ≡ filed s lent → (why : Refusal) → (r ≡ Err why) ↔ ByNumber (RefusesInto s lent) (reason_number why.reason) (carries why.reason why.offset)
 unfolding filed
 refused_by s lent r says why =
     let k = said_iff totals (walk_into s lent) (RefusesInto s lent) (into_stopped_iff s lent) (reason_number why.reason) (carries why.reason why.offset) in
-    ((λ e. k.0 (sym says ∙ ap filing_says e)), λ h. filing_one_to_one r (answer.Refused why) (says ∙ k.1 h))
+    ((λ e. k.0 (sym says ∙ ap filing_says e)), λ h. filing_one_to_one r (Err why) (says ∙ k.1 h))
 
 -- an answer with its words, and what they say of readings
-pub settled : (s lent after : List ℕ) (r : FilingAnswer) (w : Walk) → walk_into s (length lent) ≡ w → filing_says r ≡ said totals w → after ≡ words_after (said (rows_from 0) w) lent →
+pub settled : (s lent after : List ℕ) (r : Result Totals Refusal) (w : Walk) → walk_into s (length lent) ≡ w → filing_says r ≡ said totals w → after ≡ words_after (said (rows_from 0) w) lent →
     (filing_says r ≡ filed s (length lent)) × ((after ≡ words_after (filing_into s (length lent)) lent) × FiledByReading s lent after r)
 unfolding filed filing_into
 settled s lent after r w e says kept =

@@ -1,5 +1,5 @@
 -- The laws of the two passes.
-use Rattle.std.proofs.Common.{Result, Ok, Err}
+use Rattle.std.proofs.Common.{Result, Ok, Err, Option, Some, None}
 use Prim.Native.Nat.{ℕ, zero, suc, ◌≤◌, ◌<◌, ◌+◌, ◌-◌, ◌*◌}
 use mathlib.Core.Path.{◌≡◌, refl, sym, ◌∙◌, ap, subst}
 use mathlib.Core.Logic.{inl, inr}
@@ -8,7 +8,7 @@ use mathlib.Core.Bool.{Bool, true, false, cond}
 use lib.ListN.{length, get_or, take, drop, set, length-append, length-drop, take-append-drop}
 use lib.Seq.{drop-drop, take_at, drop_at, length-take-le, sets-eq, get_or-set_other}
 use lib.Dec.{eqb, ltb}
-use borrow.Author.Tests.{eqb-true, eqb-false}
+use borrow.Author.Tests.{eqb-true, eqb-false, ltb-true, ltb-false}
 use native.Mathlib.Numerals.{add-one, add-two}
 use native.Mathlib.Omega.{arith}
 use Rattle.answers.specs.Limits.{longest_stream}
@@ -32,11 +32,12 @@ use Rattle.grammar.proofs.StepLaws.{step_sound}
 use Rattle.grammar.proofs.WalkLaws.{left, left_end, unit_between}
 use Rattle.units.specs.Inside.{extension_scope}
 use Rattle.units.proofs.LengthLaws.{scope_same}
-use Rattle.units.proofs.UnitLaws.{Advanced, stands}
+use Rattle.units.proofs.UnitLaws.{Advanced, Left, what_is_left, stands}
+use Rattle.units.specs.Reader.{unit_at}
+use Rattle.units.specs.declared.NextUnit.{NextUnit}
 use Rattle.filing.specs.Filing.{words_after}
-use Rattle.filing.specs.Inside.{offset_of, short_span, Spans, Kept, checked_gives, Passed, scope_after, Writable}
-use Rattle.filing.specs.declared.Checked.{Checked}
-use Rattle.filing.specs.declared.Checked.TheVariants as checked
+use Rattle.filing.specs.declared.Refusal.{Refusal}
+use Rattle.filing.specs.Inside.{unit_or_refusal, offset_of, short_span, Spans, Kept, checked_gives, Passed, scope_after, Writable}
 
 pub any_left : (s : List ℕ) → begins s ≡ true → walk_of_any s ≡ left s Start 0
 unfolding walk_of_any left
@@ -148,9 +149,21 @@ unfolding walk_of_any
 no_code s f = rw f
 
 -- what the first pass found wrong
-pub passed_refused : (s spans : List ℕ) (r : Checked) (why : Reason) (at : ℕ) → checked_gives r ≡ stop_at why at → stop_at why at ≡ map_ok length (walk_of_any s) → Passed s spans r
-passed_refused s spans (checked.Good n) why at e f = not_ok (sym e)
-passed_refused s spans (checked.Refused w) why at e f = record { answer = e ∙ f; kept = tt }
+pub passed_refused : (s spans : List ℕ) (r : Refusal) → stop_at r.reason r.offset ≡ map_ok length (walk_of_any s) → Passed s spans (Err r)
+passed_refused s spans r e = record { answer = e; kept = tt }
+
+-- what the unit at an offset leaves of the walk, or why the walk stops there
+abbrev pub LeftHere : List ℕ → State → ℕ → Result NextUnit Refusal → Type 0
+LeftHere s q at (Ok u) = Advanced s q at u.state u.end u.length
+LeftHere s q at (Err r) = left s q at ≡ stop_at r.reason r.offset
+
+pub what_is_here : (s : List ℕ) (q : State) (at : ℕ) → begins (drop at s) ≡ true → LeftHere s q at (unit_or_refusal (unit_at s q at) at)
+what_is_here s q at b = by_unit (unit_at s q at) (what_is_left s q at b)
+  where
+    by_unit : (u : Option (Result NextUnit Reason)) → Left s q at u → LeftHere s q at (unit_or_refusal u at)
+    by_unit (Some (Ok u)) l = l
+    by_unit (Some (Err why)) l = l
+    by_unit None l = absurd l
 
 -- ── scopes ──
 
@@ -176,23 +189,40 @@ after_goes (end_edit c k) = rw c refl
 
 -- what holds at the second pass's head: the rows that are written and those that are left make the whole; of the state that the units so far
 -- lead to the pass knows the scope alone
-pub record Writing (s spans lent rows : List ℕ) (p : Scope) (at i : ℕ) : Type 0 where
+pub record Writing (s spans : List ℕ) (units : ℕ) (lent rows : List ℕ) (p : Scope) (at i : ℕ) : Type 0 where
   pub all : List Placed
   pub rest : List Placed
   pub state : State
   pub scope_is : p ≡ extension_scope state
   pub walked : walk_of_any s ≡ Ok all
   pub short : length s ≤ longest_stream
-  pub room : 3 * length all ≤ length lent
+  pub room : 3 * units ≤ length lent
   pub rest_is : left s state at ≡ Ok rest
-  pub count : i + length rest ≡ length all
+  pub total : length all ≡ units
+  pub count : i + length rest ≡ units
   pub made : take (i * 3) rows ++ words (rows_from at rest) ≡ words (rows_from 0 all)
   pub later : drop (i * 3) rows ≡ drop (i * 3) lent
   pub same : length rows ≡ length lent
   pub inside : at ≤ length s
   pub here : at < length s → begins (drop at s) ≡ true
   pub place : at ≡ offset_of s i
-  pub kept : Kept s spans (length all)
+  pub kept : Kept s spans units
+
+-- the end of the stream leaves no unit
+ended : (t : Bool) (s : List ℕ) (ms : List Placed) → cond t (Ok []) (stop_at Unended (length s)) ≡ Ok ms → ms ≡ []
+ended true s ms e = sym (ok_same e)
+ended false s ms e = not_ok e
+
+-- before the last unit the stream goes on
+more_here : (s spans : List ℕ) (units : ℕ) (lent rows : List ℕ) (p : Scope) (at i : ℕ) (w : Writing s spans units lent rows p at i) → i < units → at < length s
+more_here s spans units lent rows p at i w k = by_test (ltb at (length s))
+    (λ t. ltb-true at (length s) t)
+    (λ f.
+    let g = ltb-false at (length s) f in
+    let e : at ≡ length s = omega (arith, w.inside) in
+    let none : w.rest ≡ [] = ended (final w.state) s w.rest (sym (ap (left s w.state) e ∙ left_end s w.state) ∙ w.rest_is) in
+    let l = ap length none in
+    absurd (omega (arith, w.count)))
 
 -- the unit at an offset, by its scope
 pub record UnitHere (s : List ℕ) (p : Scope) (q : State) (at : ℕ) : Type 0 where
@@ -200,8 +230,9 @@ pub record UnitHere (s : List ℕ) (p : Scope) (q : State) (at : ℕ) : Type 0 w
   pub advanced : Advanced s q at next (next_prefix s (at + 3)) (row_length (placed p (unit_between s at (next_prefix s (at + 3)))))
   pub after : scope_after p (kind_of (get_or s (at + 3) 0)) ≡ extension_scope next
 
-pub unit_here : (s spans lent rows : List ℕ) (p : Scope) (at i : ℕ) (w : Writing s spans lent rows p at i) → at < length s → UnitHere s p w.state at
-unit_here s spans lent rows p at i w h =
+pub unit_here : (s spans : List ℕ) (units : ℕ) (lent rows : List ℕ) (p : Scope) (at i : ℕ) (w : Writing s spans units lent rows p at i) → i < units → UnitHere s p w.state at
+unit_here s spans units lent rows p at i w k =
+    let h = more_here s spans units lent rows p at i w k in
     let u = unit_between s at (next_prefix s (at + 3)) in
     let t = stands s w.state at w.rest (w.here h) w.rest_is in
     let l : row_length (placed p u) ≡ _ = ap (λ (x : Scope). row_length (placed x u)) w.scope_is ∙ scope_same w.state u in
@@ -216,8 +247,8 @@ begun : (s : List ℕ) (ms : List Placed) → walk_of_any s ≡ Ok ms → begins
 unfolding walk_of_any
 begun s ms e = by_test (begins s) (λ t. t) (λ f. not_ok (rw f at e))
 
-pub writing_start : (s spans lent : List ℕ) → Writable s spans lent → Writing s spans lent lent scope.Picture 0 0
-writing_start s spans lent w =
+pub writing_start : (s spans : List ℕ) (units : ℕ) (lent : List ℕ) → Writable s spans units lent → Writing s spans units lent lent scope.Picture 0 0
+writing_start s spans units lent w =
     let b = begun s w.all w.walked in
     record {
       all = w.all;
@@ -228,7 +259,8 @@ writing_start s spans lent w =
       short = w.short;
       room = w.room;
       rest_is = sym (any_left s b) ∙ w.walked;
-      count = omega arith;
+      total = w.count;
+      count = let c = w.count in omega arith;
       made = refl;
       later = refl;
       same = refl;
@@ -239,7 +271,7 @@ writing_start s spans lent w =
     }
 
 -- one row more
-module _ (s spans lent rows : List ℕ) (p : Scope) (at i : ℕ) (next : State) (end n : ℕ) (w : Writing s spans lent rows p at i) (a : Advanced s w.state at next end n) where
+module _ (s spans : List ℕ) (units : ℕ) (lent rows : List ℕ) (p : Scope) (at i : ℕ) (next : State) (end n : ℕ) (w : Writing s spans units lent rows p at i) (a : Advanced s w.state at next end n) where
   next_units : (rest : List Placed) × (left s next end ≡ Ok rest) × (a.unit ∷ rest ≡ w.rest)
   next_units = map_ok_lem (λ ms. a.unit ∷ ms) (left s next end) w.rest (sym a.more ∙ w.rest_is)
 
@@ -269,7 +301,7 @@ module _ (s spans lent rows : List ℕ) (p : Scope) (at i : ℕ) (next : State) 
   front_length : length (take (i * 3) rows ++ three) ≡ i * 3 + 3
   front_length = let r = writing_room in length-append (take (i * 3) rows) three ∙ rw (length-take-le (i * 3) rows (omega arith))
 
-  pub writing_next : (rows' : List ℕ) (p' : Scope) → rows' ≡ take (i * 3) rows ++ (get_or s (at + 3) 0 ∷ at ∷ n ∷ drop (i * 3 + 3) rows) → p' ≡ extension_scope next → Writing s spans lent rows' p' end (i + 1)
+  pub writing_next : (rows' : List ℕ) (p' : Scope) → rows' ≡ take (i * 3) rows ++ (get_or s (at + 3) 0 ∷ at ∷ n ∷ drop (i * 3 + 3) rows) → p' ≡ extension_scope next → Writing s spans units lent rows' p' end (i + 1)
   writing_next rows' p' e f =
       let r = next_units in
       let l : suc (length r.0) ≡ length w.rest = ap length r.2 in
@@ -286,6 +318,7 @@ module _ (s spans lent rows : List ℕ) (p : Scope) (at i : ℕ) (next : State) 
         short = w.short;
         room = w.room;
         rest_is = r.1;
+        total = w.total;
         count = omega (arith, w.count);
         made =
             ap (λ (k : ℕ). take k rows' ++ words (rows_from end r.0)) at_three ∙ ap (λ (x : List ℕ). take (i * 3 + 3) x ++ words (rows_from end r.0)) whole
@@ -303,18 +336,17 @@ module _ (s spans lent rows : List ℕ) (p : Scope) (at i : ℕ) (next : State) 
       }
 
 -- the end: nothing is left
-pub writing_end : (s spans lent rows : List ℕ) (p : Scope) (at i : ℕ) → Writing s spans lent rows p at i → length s ≤ at → rows ≡ words_after (said (rows_from 0) (walk_of_any s)) lent
-writing_end s spans lent rows p at i w h =
-    let e : at ≡ length s = omega (arith, w.inside) in
-    let none : w.rest ≡ [] = ended (final w.state) w.rest (sym (ap (left s w.state) e ∙ left_end s w.state) ∙ w.rest_is) in
-    let k : i * 3 ≡ 3 * length (rows_from 0 w.all) = let c = ap length none in let l = rows_length 0 w.all in omega (arith, w.count) in
+pub writing_end : (s spans : List ℕ) (units : ℕ) (lent rows : List ℕ) (p : Scope) (at i : ℕ) → Writing s spans units lent rows p at i → units ≤ i → rows ≡ words_after (said (rows_from 0) (walk_of_any s)) lent
+writing_end s spans units lent rows p at i w h =
+    let none : w.rest ≡ [] = nothing w.rest (omega (arith, w.count)) in
+    let k : i * 3 ≡ 3 * length (rows_from 0 w.all) = let l = rows_length 0 w.all in omega (arith, w.count, w.total) in
     let front : take (i * 3) rows ≡ words (rows_from 0 w.all) = sym (append-nil (take (i * 3) rows)) ∙ ap (λ (x : List Placed). take (i * 3) rows ++ words (rows_from at x)) (sym none) ∙ w.made in
     sym (take-append-drop (i * 3) rows) ∙ ap (λ (x : List ℕ). x ++ drop (i * 3) rows) front ∙ ap (λ (x : List ℕ). words (rows_from 0 w.all) ++ x) (w.later ∙ ap (λ (x : ℕ). drop x lent) k)
     ∙ ap (λ (x : Walk). words_after (said (rows_from 0) x) lent) (sym w.walked)
   where
-    ended : (t : Bool) (ms : List Placed) → cond t (Ok []) (stop_at Unended (length s)) ≡ Ok ms → ms ≡ []
-    ended true ms e = sym (ok_same e)
-    ended false ms e = not_ok e
+    nothing : (ms : List Placed) → length ms ≤ 0 → ms ≡ []
+    nothing [] e = refl
+    nothing (m ∷ ms) e = absurd (omega arith)
 
 -- three words are stored
 pub three_set : (l : List ℕ) (n a b c : ℕ) → n + 3 ≤ length l → set (set (set l n a) (n + 1) b) (n + 2) c ≡ take n l ++ (a ∷ b ∷ c ∷ drop (n + 3) l)

@@ -1,5 +1,5 @@
 -- What the private functions promise one another; no part of document 01.
-use Rattle.std.specs.Prelude.{ℕ, zero, suc, ◌+◌, ◌*◌, ◌≤◌, ◌<◌, ◌≡◌, List, cond, ltb, length, get_or, Result, Ok}
+use Rattle.std.specs.Prelude.{ℕ, zero, suc, ◌+◌, ◌*◌, ◌≤◌, ◌<◌, ◌≡◌, List, cond, ltb, length, get_or, Result, Ok, Err, Option, Some, None}
 use Rattle.answers.specs.Answers.{Outcome, done, refused}
 use Rattle.answers.specs.Limits.{longest_stream}
 use Rattle.answers.specs.Results.{map_ok}
@@ -10,16 +10,24 @@ use Rattle.bodies.specs.declared.Scope.{Scope}
 use Rattle.bodies.specs.declared.Scope.TheVariants as scope
 use Rattle.grammar.specs.Rows.{Placed}
 use Rattle.grammar.specs.Reader.{Stopped, stop_at, walk_of_any, filing_into}
+use Rattle.grammar.specs.declared.Reason.{Reason}
+use Rattle.grammar.specs.declared.Reason.TheVariants as reason
+use Rattle.units.specs.declared.NextUnit.{NextUnit}
 use Rattle.filing.specs.Filing.{filing_says, words_after, FiledByReading}
 use Rattle.filing.specs.Reader.{filed}
-use Rattle.filing.specs.declared.Checked.{Checked}
-use Rattle.filing.specs.declared.Checked.TheVariants as checked
-use Rattle.filing.specs.declared.FilingAnswer.{FilingAnswer}
+use Rattle.filing.specs.declared.Refusal.{Refusal}
+use Rattle.filing.specs.declared.Totals.{Totals}
 
 -- the first pass: how many units, or why it stops and where
-abbrev pub checked_gives : Checked → Result ℕ Stopped
-checked_gives (checked.Good units) = Ok units
-checked_gives (checked.Refused r) = stop_at r.reason r.offset
+abbrev pub checked_gives : Result ℕ Refusal → Result ℕ Stopped
+checked_gives (Ok units) = Ok units
+checked_gives (Err r) = stop_at r.reason r.offset
+
+-- the unit at an offset, or what the stream is refused for there: NO CODE where no unit begins
+abbrev pub unit_or_refusal : Option (Result NextUnit Reason) → ℕ → Result NextUnit Refusal
+unit_or_refusal (Some (Ok unit)) at = Ok unit
+unit_or_refusal (Some (Err why)) at = Err (record { reason = why; offset = at })
+unit_or_refusal None at = Err (record { reason = reason.NoCode; offset = at })
 
 -- the offset of each unit of a good stream, by the number of units before it
 abbrev pub offset_of : List ℕ → ℕ → ℕ
@@ -39,12 +47,12 @@ pub record Kept (stream spans : List ℕ) (units : ℕ) : Type 0 where
   pub span : (i : ℕ) → i < units → Spans (get_or spans i 0) (offset_of stream i) (offset_of stream (suc i))
 
 -- what the first pass keeps of a stream that it finds good
-abbrev pub KeptBy : List ℕ → List ℕ → Checked → Type 0
-KeptBy stream spans (checked.Good units) = Kept stream spans units
-KeptBy stream spans (checked.Refused r) = Unit {0}
+abbrev pub KeptBy : List ℕ → List ℕ → Result ℕ Refusal → Type 0
+KeptBy stream spans (Ok units) = Kept stream spans units
+KeptBy stream spans (Err r) = Unit {0}
 
 -- what the first pass answers, and the spans that it keeps
-pub record Passed (stream spans : List ℕ) (r : Checked) : Type 0 where
+pub record Passed (stream spans : List ℕ) (r : Result ℕ Refusal) : Type 0 where
   pub answer : checked_gives r ≡ map_ok length (walk_of_any stream)
   pub kept : KeptBy stream spans r
 
@@ -60,15 +68,16 @@ scope_after p (done kind.PBPicture) = scope.Picture
 scope_after p (done kind.EditCode) = p
 scope_after p (refused number carried) = p
 
--- the stream is good and within the limit, the words suffice, and the spans kept are its units'
-pub record Writable (stream spans lent : List ℕ) : Type 0 where
+-- the stream is good, of so many units, and within the limit, the words suffice, and the spans kept are its units'
+pub record Writable (stream spans : List ℕ) (units : ℕ) (lent : List ℕ) : Type 0 where
   pub all : List Placed
   pub walked : walk_of_any stream ≡ Ok all
   pub short : length stream ≤ longest_stream
-  pub room : 3 * length all ≤ length lent
-  pub kept : Kept stream spans (length all)
+  pub count : length all ≡ units
+  pub room : 3 * units ≤ length lent
+  pub kept : Kept stream spans units
 
 -- all that filing promises
-abbrev pub Filed : List ℕ → List ℕ → List ℕ → FilingAnswer → Type 0
+abbrev pub Filed : List ℕ → List ℕ → List ℕ → Result Totals Refusal → Type 0
 Filed stream lent after r =
     (filing_says r ≡ filed stream (length lent)) × ((after ≡ words_after (filing_into stream (length lent)) lent) × FiledByReading stream lent after r)

@@ -7,15 +7,16 @@ ghost use Rattle.answers.specs.Answers.{done};
 ghost use Rattle.startcode.specs.Kinds.{kind_of};
 ghost use Rattle.startcode.specs.Prefix.{next_prefix};
 ghost use Rattle.grammar.specs.Rows.{rows_from};
-ghost use Rattle.grammar.specs.Reader.{final, stop_at, said, walk_of_any, walk, filing_into};
-ghost use Rattle.filing.specs.Filing.{filing_says, checked_says, words_after, FiledByReading};
+ghost use Rattle.grammar.specs.Reader.{final, said, walk_of_any, walk, filing_into};
+ghost use Rattle.units.specs.Reader.{unit_at};
+ghost use Rattle.filing.specs.Filing.{filing_says, words_after, FiledByReading};
 ghost use Rattle.filing.specs.Reader.{filed};
-ghost use Rattle.filing.specs.Inside.{checked_gives, short_span, Spans, KeptBy, Passed, scope_after, Writable, Filed};
+ghost use Rattle.filing.specs.Inside.{short_span, unit_or_refusal, Spans, KeptBy, Passed, scope_after, Writable, Filed};
 
 use bodies::Scope;
 use grammar::{Reason, State};
 use startcode::{Kind, UnitKind};
-use units::UnitAnswer;
+use units::NextUnit;
 
 // A refusal and its offset in the stream.
 #[derive(Clone, Copy)]
@@ -24,22 +25,9 @@ pub struct Refusal {
     pub offset: usize,
 }
 
-#[derive(Clone, Copy)]
+#[derive(Clone, Copy, Debug, PartialEq, Eq)]
 pub struct Totals {
     pub units: usize,
-}
-
-#[derive(Clone, Copy)]
-pub enum FilingAnswer {
-    Filed(Totals),
-    Refused(Refusal),
-}
-
-// The number of units, or the first refusal.
-#[derive(Clone, Copy)]
-pub enum Checked {
-    Good(usize),
-    Refused(Refusal),
 }
 
 // ── the first pass ──
@@ -47,80 +35,76 @@ pub enum Checked {
 fn is_final(state: State) -> bool
     ensures { result ≡ final state }
 {
-    match state {
-        State::Start => false,
-        State::Head(_, _) => false,
-        State::Picture(_) => false,
-        State::Slices(_, _) => false,
-        State::Ended => true,
-        State::Closed => true,
-    }
-}
-
-// A stream is refused at an offset.
-fn refused_at(reason: Reason, offset: usize) -> Checked
-    ensures { checked_gives result ≡ stop_at reason offset }
-{
-    Checked::Refused(Refusal {
-        reason: reason,
-        offset: offset,
-    })
+    matches!(state, State::Ended | State::Closed)
 }
 
 // A span in 16 bits: 0 where it does not fit.
 fn short_span(span: usize) -> u16
     ensures { result ≡ short_span span }
 {
-    if span < 65536 { span as u16 } else { 0 }
+    u16::try_from(span).unwrap_or(0)
 }
 
 // A unit's span is kept, where there is a word for it.
 fn keep_span(spans: &mut [u16], i: usize, span: usize)
     ensures { spans.new ≡ set spans.old i (short_span span) }
 {
+    // Not get_mut: after it a proof knows a slice's length alone.
     if i < spans.len() {
         spans[i] = short_span(span);
     }
 }
 
+// The unit at an offset; where none begins there, that is NO CODE.
+fn unit_here(stream: &[u8], state: State, at: usize) -> Result<NextUnit, Refusal>
+    ensures { result ≡ unit_or_refusal (unit_at stream.now state at) at }
+{
+    match units::unit_at(stream, state, at) {
+        Some(Ok(unit)) => Ok(unit),
+        Some(Err(reason)) => Err(Refusal { reason, offset: at }),
+        None => Err(Refusal {
+            reason: Reason::NoCode,
+            offset: at,
+        }),
+    }
+}
+
 // Each unit is checked, the units are counted, and the spans of the first are kept; no word for rows is touched.
-fn check_units(stream: &[u8], spans: &mut [u16]) -> Checked
+fn check_units(stream: &[u8], spans: &mut [u16]) -> Result<usize, Refusal>
     ensures { Passed stream.now spans.new result }
 {
     if !startcode::prefix_at(stream, 0) {
-        return refused_at(Reason::NoCode, 0);
+        return Err(Refusal {
+            reason: Reason::NoCode,
+            offset: 0,
+        });
     }
     let mut state = State::Start;
     let mut at: usize = 0;
     let mut units: usize = 0;
+    // Not a for: how many units there are is found by going over them.
     while at < stream.len() {
-        match units::unit_at(stream, state, at) {
-            UnitAnswer::Next(next, end, _) => {
-                keep_span(spans, units, end - at);
-                state = next;
-                at = end;
-                units += 1;
-            }
-            UnitAnswer::Refused(why) => {
-                return refused_at(why, at);
-            }
-            UnitAnswer::NoUnit => {
-                return refused_at(Reason::NoCode, at);
-            }
-        }
+        let unit = unit_here(stream, state, at)?;
+        keep_span(spans, units, unit.end - at);
+        state = unit.state;
+        at = unit.end;
+        units += 1;
     }
     if is_final(state) {
-        return Checked::Good(units);
+        return Ok(units);
     }
-    refused_at(Reason::Unended, at)
+    Err(Refusal {
+        reason: Reason::Unended,
+        offset: at,
+    })
 }
 
 // The limit, and then the first pass.
-fn check_keeping(stream: &[u8], spans: &mut [u16]) -> Checked
-    ensures { (checked_says result ≡ said length (walk stream.now)) × KeptBy stream.now spans.new result }
+fn check_keeping(stream: &[u8], spans: &mut [u16]) -> Result<usize, Refusal>
+    ensures { (filing_says result ≡ said length (walk stream.now)) × KeptBy stream.now spans.new result }
 {
     if 16777216 < stream.len() {
-        return Checked::Refused(Refusal {
+        return Err(Refusal {
             reason: Reason::TooLong,
             offset: 0,
         });
@@ -129,11 +113,10 @@ fn check_keeping(stream: &[u8], spans: &mut [u16]) -> Checked
 }
 
 // A stream is checked and no row is written: filing's answer, FULL aside.
-pub fn check(stream: &[u8]) -> Checked
-    ensures { checked_says result ≡ said length (walk stream.now) }
+pub fn check(stream: &[u8]) -> Result<usize, Refusal>
+    ensures { filing_says result ≡ said length (walk stream.now) }
 {
-    let mut spans = [1u16; 1];
-    check_keeping(stream, &mut spans)
+    check_keeping(stream, &mut [])
 }
 
 // ── the second pass ──
@@ -178,16 +161,10 @@ fn scope_after(scope: Scope, code: u8) -> Scope
 fn span_of(spans: &[u16], i: usize) -> usize
     ensures { (result ≡ get_or spans.now i 0) × (result < 65536) }
 {
-    if i < spans.len() {
-        return wide(spans[i]);
+    match spans.get(i) {
+        Some(span) => usize::from(*span),
+        None => 0,
     }
-    0
-}
-
-fn wide(x: u16) -> usize
-    ensures { (result ≡ x) × (result < 65536) }
-{
-    x as usize
 }
 
 // The end of unit i at an offset: by the span that the first pass kept, or searched for again.
@@ -202,16 +179,15 @@ fn end_of(stream: &[u8], spans: &[u16], i: usize, at: usize) -> usize
     at + span
 }
 
-// The rows of a stream that is good, into words that suffice. Nothing is judged again: a row takes the unit's code, its end and its
-// scope.
-fn write_rows(stream: &[u8], spans: &[u16], rows: &mut [u32])
-    requires { Writable stream.now spans.now rows.old }
+// The rows of a stream that is good, of so many units, into words that suffice. Nothing is judged again: a row takes the unit's code, its
+// end and its scope.
+fn write_rows(stream: &[u8], spans: &[u16], units: usize, rows: &mut [u32])
+    requires { Writable stream.now spans.now units rows.old }
     ensures { rows.new ≡ words_after (said (rows_from 0) (walk_of_any stream.now)) rows.old }
 {
     let mut scope = Scope::Picture;
     let mut at: usize = 0;
-    let mut i: usize = 0;
-    while at < stream.len() {
+    for i in 0..units {
         let code = stream[at + 3];
         let end = end_of(stream, spans, i, at);
         let from = at + 4;
@@ -219,46 +195,47 @@ fn write_rows(stream: &[u8], spans: &[u16], rows: &mut [u32])
         put_row(rows, i, code, at, length);
         scope = scope_after(scope, code);
         at = end;
-        i += 1;
     }
 }
 
 // ── filing ──
 
 // A stream is filed, with words for the spans of its first units.
-fn file_keeping(stream: &[u8], spans: &mut [u16], rows: &mut [u32]) -> FilingAnswer
+fn file_keeping(stream: &[u8], spans: &mut [u16], rows: &mut [u32]) -> Result<Totals, Refusal>
     ensures { Filed stream.now rows.old rows.new result }
 {
-    match check_keeping(stream, spans) {
-        Checked::Good(units) => {
-            if rows.len() / 3 < units {
-                return FilingAnswer::Refused(Refusal {
-                    reason: Reason::Full,
-                    offset: 0,
-                });
-            }
-            write_rows(stream, spans, rows);
-            FilingAnswer::Filed(Totals { units: units })
-        }
-        Checked::Refused(refusal) => FilingAnswer::Refused(refusal),
+    let units = check_keeping(stream, spans)?;
+    if rows.len() / 3 < units {
+        return Err(Refusal {
+            reason: Reason::Full,
+            offset: 0,
+        });
     }
+    write_rows(stream, spans, units, rows);
+    Ok(Totals { units })
 }
 
-// A stream is filed: its rows are written to the lent words, or it is refused and the words stay. Short streams lend few words for
-// spans, since all are filled before the first is kept. What they are filled with is never read.
-pub fn file(stream: &[u8], rows: &mut [u32]) -> FilingAnswer
+// The same with N such words, in a stack frame of its own: a function fills all its locals at its start.
+fn file_with<const N: usize>(stream: &[u8], rows: &mut [u32]) -> Result<Totals, Refusal>
+    requires { N ≤ 15360 }
+    ensures { Filed stream.now rows.old rows.new result }
+{
+    let mut spans = [0u16; N];
+    file_keeping(stream, &mut spans, rows)
+}
+
+// A stream is filed: its rows are written to the lent words, or it is refused and the words stay. A short stream has few words for
+// spans, since all are filled before the first is kept.
+pub fn file(stream: &[u8], rows: &mut [u32]) -> Result<Totals, Refusal>
     ensures answer { filing_says result ≡ filed stream.now (ListN.length rows.old) }
     ensures words { rows.new ≡ words_after (filing_into stream.now (ListN.length rows.old)) rows.old }
     ensures reading { FiledByReading stream.now rows.old rows.new result }
 {
     if stream.len() < 1024 {
-        let mut spans = [1u16; 32];
-        return file_keeping(stream, &mut spans, rows);
+        return file_with::<32>(stream, rows);
     }
     if stream.len() < 16384 {
-        let mut spans = [1u16; 256];
-        return file_keeping(stream, &mut spans, rows);
+        return file_with::<256>(stream, rows);
     }
-    let mut spans = [1u16; 15360];
-    file_keeping(stream, &mut spans, rows)
+    file_with::<15360>(stream, rows)
 }

@@ -4,9 +4,6 @@ use mathlib.Core.Path.{◌≡◌, refl, sym, ◌∙◌, ap, subst}
 use mathlib.Core.Logic.{◌⊎◌, inl, inr, ◌↔◌}
 use mathlib.Core.List.{List, [], ◌∷◌, map}
 use mathlib.Core.Bool.{Bool, true, false, cond, ◌&&◌, not}
-use denote.Enum.Declared
-use mir.Val.{has_key}
-use types.Run.{OneOf, miss}
 use native.Mathlib.Omega.{arith}
 use borrow.Author.Tests.{eqb-true, eq-eqb, leb-true}
 use lib.Dec.{T, leb, eqb}
@@ -16,7 +13,6 @@ use Rattle.answers.proofs.OutcomeLaws.{undone, done_one, not_done}
 use Rattle.bits.proofs.TestLaws.{by_test, and_true}
 use Rattle.startcode.specs.Kinds.{Codes, kind_in, kinds, kind_of}
 use Rattle.startcode.specs.declared.Kind.{Kind}
-use Rattle.startcode.specs.contracts.Kind as Declaration
 use Rattle.startcode.specs.declared.Kind.TheVariants as kind
 use Rattle.grammar.specs.Reader.{kind_index, same_kind}
 
@@ -46,46 +42,6 @@ same_true j k t = undone kind_index kind_at index_undone j k (eqb-true (kind_ind
 
 pub true_same : (j k : Kind) → j ≡ k → same_kind j k ≡ true
 true_same j k e = eq-eqb (kind_index j) (kind_index k) (ap kind_index e)
-
--- ── the kinds of a `match` ──
-
-tag_is : (k : Kind) → Declared.tag_of Declaration.the_type k ≡ kind_index k
-tag_is kind.Slice = refl
-tag_is kind.SequenceHeader = refl
-tag_is kind.SequenceEnd = refl
-tag_is kind.UserData = refl
-tag_is kind.IPicture = refl
-tag_is kind.Extension = refl
-tag_is kind.PBPicture = refl
-tag_is kind.EditCode = refl
-
-not_this : (tags : List ℕ) (j k : Kind) → OneOf tags (Declared.tag_of Declaration.the_type k) → not (has_key tags (kind_index j)) ≡ true → same_kind k j ≡ false
-not_this tags j k o n =
-    by_test (same_kind k j)
-    (λ t. absurd (miss tags (kind_index j) (subst T (sym n) tt) (subst (OneOf tags) (ap (Declared.tag_of Declaration.the_type) (same_true k j t) ∙ tag_is j) o)))
-    (λ f. f)
-
--- the numbers of the kinds that are not named
-abbrev others : List Kind → List ℕ → List ℕ
-others named [] = []
-others named (n ∷ ns) = cond (has_key (map kind_index named) n) (others named ns) (n ∷ others named ns)
-
--- none of these kinds has one of these numbers
-abbrev none_has : List ℕ → List Kind → Bool
-none_has tags [] = true
-none_has tags (j ∷ js) = not (has_key tags (kind_index j)) && none_has tags js
-
-none_of : (tags : List ℕ) (js : List Kind) (k : Kind) → OneOf tags (Declared.tag_of Declaration.the_type k) → none_has tags js ≡ true → All (λ j. same_kind k j ≡ false) js
-none_of tags [] k o t = tt
-none_of tags (j ∷ js) k o t = let (here, rest) = and_true _ _ t in (not_this tags j k o here, none_of tags js k o rest)
-
--- where a `match` has come to its last arm, the kind is none of those named by the arms before
-module _ (named : List Kind) where
-  abbrev left : List ℕ
-  left = others named (0 ∷ 1 ∷ 2 ∷ 3 ∷ 4 ∷ 5 ∷ 6 ∷ 7 ∷ [])
-
-  pub last_arm : (k : Kind) → OneOf left (Declared.tag_of Declaration.the_type k) → none_has left named ≡ true → All (λ j. same_kind k j ≡ false) named
-  last_arm k o t = none_of left named k o t
 
 -- a kind that is not another is found to be none of it
 pub other_kind : (k j : Kind) → ¬ (k ≡ j) → same_kind k j ≡ false

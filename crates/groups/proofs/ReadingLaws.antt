@@ -1,4 +1,5 @@
 -- What is read in a group of a reading is what the grammar says of it.
+use Rattle.std.proofs.Common.{Option, Some, None}
 use Prim.Native.Nat.{ℕ, zero, suc, ◌≤◌}
 use mathlib.Core.Path.{◌≡◌, refl, sym, ◌∙◌, ap, subst}
 use mathlib.Core.Logic.{inl, inr, ◌↔◌}
@@ -30,8 +31,6 @@ use Rattle.grammar.proofs.HeaderLaws.{OtherKind, tail_of, tail_other, ending_oth
 use Rattle.grammar.proofs.Division.{number_two, number_not_two}
 use Rattle.groups.specs.Groups.{GroupRecord, DisplayIs, GroupIs, NthGroup}
 use Rattle.groups.specs.Reader.{shown, in_head, display_in, group_of, begins_group, group_in}
-use Rattle.groups.specs.declared.Display.{Display}
-use Rattle.groups.specs.declared.Display.TheVariants.{Given, NotGiven}
 use Rattle.groups.proofs.WalkLaws.{past_other, past_group, this_group}
 
 -- ── units that begin no group ──
@@ -56,12 +55,12 @@ no_group g (u ∷ us) h = past_other u us g h.0 ∙ no_group g us h.1
 
 -- ── a group's head ──
 
-past : (u : StreamUnit) (us : List StreamUnit) → IsKind kind.IPicture u → display_in (u ∷ us) ≡ NotGiven
+past : (u : StreamUnit) (us : List StreamUnit) → IsKind kind.IPicture u → display_in (u ∷ us) ≡ None
 unfolding display_in
 past u us c = ap (λ o. in_head o u.body (display_in us)) c
 
 -- the first picture ends the head
-pictures_past : (ps : List Picture) (rest : List StreamUnit) → FirstIsI ps → display_in (concat_map picture_units ps ++ rest) ≡ NotGiven
+pictures_past : (ps : List Picture) (rest : List StreamUnit) → FirstIsI ps → display_in (concat_map picture_units ps ++ rest) ≡ None
 pictures_past [] rest f = absurd f
 pictures_past (p ∷ ps) rest f = past p.head _ f
 
@@ -71,7 +70,7 @@ display_two body d (plain n c vs o r) = n.bits
 display_two body d (coloured n c vs o r) = n.bits
 
 -- an extension that is no display extension
-shown_other : (o : Outcome Extension) (rest : Display) → ((d : DisplayExtension) → o ≡ done (display d) → ⊥) → shown o rest ≡ rest
+shown_other : (o : Outcome Extension) (rest : Option DisplayExtension) → ((d : DisplayExtension) → o ≡ done (display d) → ⊥) → shown o rest ≡ rest
 shown_other (done (display d)) rest n = absurd (n d refl)
 shown_other (done (copyright c)) rest n = refl
 shown_other (done (opaque number)) rest n = refl
@@ -86,53 +85,53 @@ other u us (inr h) n =
     (λ d e. n (h.0, (number_two u.body).0 (display_two u.body d ((display_iff scope.Head u.body d).0 e).1)))
 
 -- a display extension
-display_unit : (u : StreamUnit) (us : List StreamUnit) (d : DisplayExtension) → DisplayUnit u → DisplayBody u.body d → display_in (u ∷ us) ≡ Given d
+display_unit : (u : StreamUnit) (us : List StreamUnit) (d : DisplayExtension) → DisplayUnit u → DisplayBody u.body d → display_in (u ∷ us) ≡ Some d
 unfolding display_in
 display_unit u us d h b =
     ap (λ o. in_head o u.body (display_in us)) h.0
     ∙ ap (λ (o : Outcome Extension). shown o (display_in us)) ((display_iff scope.Head u.body d).1 (refl, b))
 
 -- none of the head's units is one
-none_shown : (extras tail : List StreamUnit) → display_in tail ≡ NotGiven → All HeadExtra extras → All (λ u. ¬ DisplayUnit u) extras → display_in (extras ++ tail) ≡ NotGiven
+none_shown : (extras tail : List StreamUnit) → display_in tail ≡ None → All HeadExtra extras → All (λ u. ¬ DisplayUnit u) extras → display_in (extras ++ tail) ≡ None
 none_shown [] tail t h n = t
 none_shown (u ∷ us) tail t h n = other u (us ++ tail) h.0 n.0 ∙ none_shown us tail t h.1 n.1
 
 -- the one that is
 one_shown : (before : List StreamUnit) (u : StreamUnit) (after tail : List StreamUnit) (d : DisplayExtension) → All HeadExtra (before ++ u ∷ after) → AtMostOne DisplayUnit (before ++ u ∷ after) →
-    DisplayUnit u → DisplayBody u.body d → display_in ((before ++ u ∷ after) ++ tail) ≡ Given d
+    DisplayUnit u → DisplayBody u.body d → display_in ((before ++ u ∷ after) ++ tail) ≡ Some d
 one_shown [] u after tail d h o k b = display_unit u (after ++ tail) d k b
 one_shown (x ∷ xs) u after tail d h o k b =
     other x ((xs ++ u ∷ after) ++ tail) h.0 (λ i. absent DisplayUnit xs u after (o.0 i) k) ∙ one_shown xs u after tail d h.1 o.1 k b
 
-pub display_is : (extras tail : List StreamUnit) (d : Display) → display_in tail ≡ NotGiven → All HeadExtra extras → AtMostOne DisplayUnit extras → DisplayIs extras d → display_in (extras ++ tail) ≡ d
-display_is extras tail (Given d) t h o k =
+pub display_is : (extras tail : List StreamUnit) (d : Option DisplayExtension) → display_in tail ≡ None → All HeadExtra extras → AtMostOne DisplayUnit extras → DisplayIs extras d → display_in (extras ++ tail) ≡ d
+display_is extras tail (Some d) t h o k =
     let e = k.is in
     ap (λ (l : List StreamUnit). display_in (l ++ tail)) e
     ∙ one_shown k.before k.unit k.after tail d (subst (All HeadExtra) e h) (subst (AtMostOne DisplayUnit) e o) k.display k.body
-display_is extras tail NotGiven t h o k = none_shown extras tail t h k
+display_is extras tail None t h o k = none_shown extras tail t h k
 
 -- a head has a display extension or none
 display_of_lem : (body : List ℕ) → HasNumber body 2 → IsDisplay body → (d : DisplayExtension) × DisplayBody body d
 display_of_lem body n (vs, inl (c, h)) = let m = plain_made vs h.fits in (m.0, plain n c vs h m.1)
 display_of_lem body n (vs, inr (c, h)) = let m = coloured_made vs h.fits in (m.0, coloured n c vs h m.1)
 
-not_this : (u : StreamUnit) (us : List StreamUnit) → ¬ DisplayUnit u → (d : Display) → DisplayIs us d → DisplayIs (u ∷ us) d
-not_this u us n (Given d) k = record { before = u ∷ k.before; unit = k.unit; after = k.after; is = ap (λ (l : List StreamUnit). u ∷ l) k.is; display = k.display; body = k.body }
-not_this u us n NotGiven k = (n, k)
+not_this : (u : StreamUnit) (us : List StreamUnit) → ¬ DisplayUnit u → (d : Option DisplayExtension) → DisplayIs us d → DisplayIs (u ∷ us) d
+not_this u us n (Some d) k = record { before = u ∷ k.before; unit = k.unit; after = k.after; is = ap (λ (l : List StreamUnit). u ∷ l) k.is; display = k.display; body = k.body }
+not_this u us n None k = (n, k)
 
-this : (u : StreamUnit) (us : List StreamUnit) → HeadExtra u → DisplayUnit u → (d : Display) × DisplayIs (u ∷ us) d
+this : (u : StreamUnit) (us : List StreamUnit) → HeadExtra u → DisplayUnit u → (d : Option DisplayExtension) × DisplayIs (u ∷ us) d
 this u us (inl c) k = apart kind.UserData kind.Extension refl c k.0
-this u us (inr h) k = let m = display_of_lem u.body k.1 (h.2 k.1) in (Given m.0, record { before = []; unit = u; after = us; is = refl; display = k; body = m.1 })
+this u us (inr h) k = let m = display_of_lem u.body k.1 (h.2 k.1) in (Some m.0, record { before = []; unit = u; after = us; is = refl; display = k; body = m.1 })
 
 display_or_not : (u : StreamUnit) → HeadExtra u → Dec (DisplayUnit u)
 display_or_not u (inl c) = no (λ k. apart kind.UserData kind.Extension refl c k.0)
 display_or_not u (inr h) = by_test (numbered 2 u.body) (λ t. yes (h.0, (number_two u.body).0 t)) (λ f. no (λ k. (number_not_two u.body).0 f k.1))
 
-some_display : (extras : List StreamUnit) → All HeadExtra extras → (d : Display) × DisplayIs extras d
-some_display [] h = (NotGiven, tt)
+some_display : (extras : List StreamUnit) → All HeadExtra extras → (d : Option DisplayExtension) × DisplayIs extras d
+some_display [] h = (None, tt)
 some_display (u ∷ us) h = by_dec (display_or_not u h.0) (some_display us h.1)
   where
-    by_dec : Dec (DisplayUnit u) → (d : Display) × DisplayIs us d → (d : Display) × DisplayIs (u ∷ us) d
+    by_dec : Dec (DisplayUnit u) → (d : Option DisplayExtension) × DisplayIs us d → (d : Option DisplayExtension) × DisplayIs (u ∷ us) d
     by_dec (yes k) r = this u us h.0 k
     by_dec (no n) r = (r.0, not_this u us n r.0 r.1)
 
@@ -163,7 +162,7 @@ module _ (group : Group) (h : IsGroup group) (rest : List StreamUnit) where
   group_here x k =
       this_group group.head (body ++ rest) zero heads refl
       ∙ ap (λ (o : Outcome SequenceHeader). group_of o (display_in (body ++ rest))) (header_read group.head.body x.header k.header)
-      ∙ ap (λ (d : Display). done (record { header = x.header; display = d }))
+      ∙ ap (λ (d : Option DisplayExtension). done (record { header = x.header; display = d }))
       (ap display_in (append_assoc group.extras (concat_map picture_units group.pictures) rest)
       ∙ display_is group.extras (concat_map picture_units group.pictures ++ rest) x.display (pictures_past group.pictures rest h.first) h.extras h.one_display k.display)
 

@@ -1,5 +1,5 @@
 -- What is answered for group g is that of the reading, and a refusal is the stream's.
-use Rattle.std.proofs.Common.{Ok, Err}
+use Rattle.std.proofs.Common.{Option, Result, Ok, Err}
 use Prim.Native.Nat.{ℕ, zero, suc, ◌≤◌}
 use mathlib.Core.Path.{◌≡◌, refl, sym, ◌∙◌, ap}
 use mathlib.Core.Logic.{◌↔◌}
@@ -23,13 +23,14 @@ use Rattle.grammar.specs.declared.Reason.TheVariants.{NoCode}
 use Rattle.grammar.proofs.CutLaws.{chunk, cut_units}
 use Rattle.grammar.proofs.Filing.{unit_of, units_of_placed, walked_iff, said_done}
 use Rattle.grammar.proofs.Refusals.{stopped_iff, said_iff}
+use Rattle.filing.specs.declared.Refusal.{Refusal}
 use Rattle.filing.proofs.Demand.{refusal_of, refusal_undone, walk_good}
+use Rattle.bodies.specs.declared.DisplayExtension.{DisplayExtension}
 use Rattle.groups.specs.Groups.{GroupRecord, group_says, GroupOfReading, GroupByReading}
 use Rattle.groups.specs.Reader.{display_in, group_of, begins_group, group_in, group_at}
 use Rattle.groups.specs.Inside.{units_in, units_from, Here}
-use Rattle.groups.specs.declared.Display.{Display}
-use Rattle.groups.specs.declared.GroupAnswer.{GroupAnswer}
-use Rattle.groups.specs.declared.GroupAnswer.TheVariants as answer
+use Rattle.groups.specs.declared.GroupError.{GroupError}
+use Rattle.groups.specs.declared.GroupError.TheVariants as error
 use Rattle.groups.proofs.ReadingLaws.{number_given, given_number, no_number}
 
 -- ── a stream with a reading ──
@@ -59,7 +60,7 @@ not_offset : {P A : Type 0} {m n : ℕ} {c : Carried} {cs : List Carried} → �
 not_offset {c = c} {cs = cs} e = let z : ◌≡◌ {A = List Carried} (c ∷ cs) [] = cc in let y : ◌≡◌ {A = ℕ} 0 1 = cc in absurd (omega arith)
 
 module _ (n : ℕ) (first : Carried) (more : List Carried) where
-  group_no_offset : {P : Type 0} (o : Outcome SequenceHeader) (d : Display) → group_of o d ≡ refused n (first ∷ more) → P
+  group_no_offset : {P : Type 0} (o : Outcome SequenceHeader) (d : Option DisplayExtension) → group_of o d ≡ refused n (first ∷ more) → P
   group_no_offset (done header) d e = not_refused e
   group_no_offset (refused m carried) d e = not_offset (sym e)
 
@@ -177,12 +178,12 @@ at_refused s g n carried e = by_outcome (walk s) e
 pub group_one_to_one : OneToOne group_says
 group_one_to_one = undone group_says back is
   where
-    back : Outcome GroupRecord → GroupAnswer
-    back (done x) = answer.Group x.header x.display
-    back (refused n []) = answer.NoRow
-    back (refused n (first ∷ more)) = answer.Refused (refusal_of n (first ∷ more))
+    back : Outcome GroupRecord → Result GroupRecord GroupError
+    back (done x) = Ok x
+    back (refused n []) = Err error.NoRow
+    back (refused n (first ∷ more)) = Err (error.Refused (refusal_of n (first ∷ more)))
 
-    is : (a : GroupAnswer) → back (group_says a) ≡ a
-    is (answer.Group h d) = refl
-    is answer.NoRow = refl
-    is (answer.Refused r) = ap answer.Refused (refusal_undone r)
+    is : (a : Result GroupRecord GroupError) → back (group_says a) ≡ a
+    is (Ok x) = refl
+    is (Err error.NoRow) = refl
+    is (Err (error.Refused r)) = ap (λ (why : Refusal). Err (error.Refused why)) (refusal_undone r)

@@ -1,4 +1,5 @@
 -- The walk by index: the unit at an offset, and those after it.
+use Rattle.std.proofs.Common.{Option, None}
 use Prim.Native.Nat.{ℕ, zero, suc, ◌≤◌, ◌<◌, ◌+◌, ◌-◌}
 use mathlib.Core.Path.{◌≡◌, refl, sym, ◌∙◌, ap}
 use mathlib.Core.List.{List, [], ◌∷◌}
@@ -19,9 +20,8 @@ use Rattle.bodies.specs.Reader.{header_of}
 use Rattle.grammar.specs.Grammar.{StreamUnit}
 use Rattle.grammar.specs.Reader.{cut, same_kind}
 use Rattle.grammar.proofs.WalkLaws.{prefix_fits, chunks_cut, chunks_overlap, unit_between, next_fits, chunks_unit, next_begins}
+use Rattle.bodies.specs.declared.DisplayExtension.{DisplayExtension}
 use Rattle.groups.specs.Reader.{in_head, display_in, group_of, begins_group, group_in}
-use Rattle.groups.specs.declared.Display.{Display}
-use Rattle.groups.specs.declared.Display.TheVariants.{NotGiven}
 use Rattle.groups.specs.Inside.{units_in, units_from, Here}
 
 from_chunks : (s : List ℕ) (at : ℕ) (chunks : List (List ℕ)) → (cut (drop at s)).chunks ≡ chunks → units_from s at ≡ units_in chunks
@@ -92,7 +92,7 @@ pub record Showing (s : List ℕ) (from at : ℕ) : Type 0 where
   pub here : Here s at
   pub same : display_in (units_from s from) ≡ display_in (units_from s at)
 
-pub show_end : (s : List ℕ) (from at : ℕ) → Showing s from at → units_from s at ≡ [] → NotGiven ≡ display_in (units_from s from)
+pub show_end : (s : List ℕ) (from at : ℕ) → Showing s from at → units_from s at ≡ [] → None ≡ display_in (units_from s from)
 unfolding display_in
 show_end s from at h e = sym (h.same ∙ ap display_in e)
 
@@ -104,7 +104,7 @@ unfolding display_in
 show_next s from at next h w = sym (h.same ∙ ap display_in w.units)
 
 -- a unit of another kind than user data and extensions ends the head
-pub ends_head : (k : Kind) (body : List ℕ) (rest : Display) → same_kind k kind.UserData ≡ false → same_kind k kind.Extension ≡ false → NotGiven ≡ in_head (done k) body rest
+pub ends_head : (k : Kind) (body : List ℕ) (rest : Option DisplayExtension) → same_kind k kind.UserData ≡ false → same_kind k kind.Extension ≡ false → None ≡ in_head (done k) body rest
 ends_head kind.Slice body rest u x = refl
 ends_head kind.SequenceHeader body rest u x = refl
 ends_head kind.SequenceEnd body rest u x = refl

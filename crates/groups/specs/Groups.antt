@@ -1,6 +1,6 @@
 -- Document 01, "Rows": asked for group g of a stream, counted from 0, the answer is the stream's refusal (rows aside), or NO ROW,
 -- or the header record with the display extension given or not given.
-use Rattle.std.specs.Prelude.{ℕ, ◌≤◌, ◌≡◌, ◌↔◌, List, [], ◌∷◌, ◌++◌, length}
+use Rattle.std.specs.Prelude.{ℕ, ◌≤◌, ◌≡◌, ◌↔◌, List, [], ◌∷◌, ◌++◌, length, Option, Some, None, Result, Ok, Err}
 use Rattle.answers.specs.Answers.{Carried, Outcome, done, refused, NO_ROW}
 use Rattle.answers.specs.Limits.{longest_stream}
 use Rattle.bits.specs.Lists.{All}
@@ -10,21 +10,19 @@ use Rattle.bodies.specs.declared.SequenceHeader.{SequenceHeader}
 use Rattle.grammar.specs.Grammar.{StreamUnit, Group, Reading, Reads, IsHeader, DisplayUnit}
 use Rattle.grammar.specs.Reasons.{reason_number, carries, ByNumber}
 use Rattle.grammar.specs.Refusals.{Refuses}
-use Rattle.groups.specs.declared.Display.{Display}
-use Rattle.groups.specs.declared.Display.TheVariants as displayed
-use Rattle.groups.specs.declared.GroupAnswer.{GroupAnswer}
-use Rattle.groups.specs.declared.GroupAnswer.TheVariants as answer
+use Rattle.groups.specs.declared.Group as declared
+use Rattle.groups.specs.declared.GroupError.{GroupError}
+use Rattle.groups.specs.declared.GroupError.TheVariants as error
 
 -- the header record, with the display extension given or not given
-pub record GroupRecord : Type 0 where
-  pub header : SequenceHeader
-  pub display : Display
+abbrev pub GroupRecord : Type 0
+GroupRecord = declared.Group
 
 -- the numbers of the answers
-abbrev pub group_says : GroupAnswer → Outcome GroupRecord
-group_says (answer.Group header d) = done (record { header = header; display = d })
-group_says answer.NoRow = refused NO_ROW []
-group_says (answer.Refused r) = refused (reason_number r.reason) (carries r.reason r.offset)
+abbrev pub group_says : Result GroupRecord GroupError → Outcome GroupRecord
+group_says (Ok group) = done group
+group_says (Err error.NoRow) = refused NO_ROW []
+group_says (Err (error.Refused r)) = refused (reason_number r.reason) (carries r.reason r.offset)
 
 -- ── group g of a reading ──
 
@@ -38,9 +36,9 @@ pub record Shows (extras : List StreamUnit) (d : DisplayExtension) : Type 0 wher
   pub body : DisplayBody unit.body d
 
 -- given where a unit of the head is one, not given where none is
-abbrev pub DisplayIs : List StreamUnit → Display → Type 0
-DisplayIs extras (displayed.Given d) = Shows extras d
-DisplayIs extras displayed.NotGiven = All (λ u. ¬ DisplayUnit u) extras
+abbrev pub DisplayIs : List StreamUnit → Option DisplayExtension → Type 0
+DisplayIs extras (Some d) = Shows extras d
+DisplayIs extras None = All (λ u. ¬ DisplayUnit u) extras
 
 -- the header record and the display extension of a group
 pub record GroupIs (group : Group) (x : GroupRecord) : Type 0 where

@@ -1,10 +1,9 @@
 -- What the private functions promise one another; no part of document 01.
-use Rattle.std.specs.Prelude.{ℕ, ◌≤◌, ◌<◌, ◌≡◌, List, [], ◌∷◌, true, length, drop}
+use Rattle.std.specs.Prelude.{ℕ, ◌≤◌, ◌<◌, ◌≡◌, List, [], ◌∷◌, true, length, drop, Option, Some, None}
 use Rattle.startcode.specs.Prefix.{begins}
 use Rattle.grammar.specs.Grammar.{StreamUnit}
 use Rattle.grammar.specs.Reader.{cut}
-use Rattle.groups.specs.declared.Display.{Display}
-use Rattle.groups.specs.declared.Display.TheVariants as displayed
+use Rattle.bodies.specs.declared.DisplayExtension.{DisplayExtension}
 use Rattle.groups.specs.declared.InHead.{InHead}
 use Rattle.groups.specs.declared.InHead.TheVariants as in_head
 
@@ -24,11 +23,11 @@ pub record Here (stream : List ℕ) (at : ℕ) : Type 0 where
   pub prefix : at < length stream → begins (drop at stream) ≡ true
 
 -- the display extension, by what a unit of the head says and by those after it
-abbrev pub display_by : InHead → Display → Display
-display_by (in_head.Display d) rest = displayed.Given d
+abbrev pub display_by : InHead → Option DisplayExtension → Option DisplayExtension
+display_by (in_head.Display d) rest = Some d
 display_by in_head.Other rest = rest
-display_by in_head.Past rest = displayed.NotGiven
+display_by in_head.Past rest = None
 
 -- what a unit of the head says, whatever those after it say
-abbrev pub Tells : InHead → (Display → Display) → Type 0
-Tells y f = (rest : Display) → display_by y rest ≡ f rest
+abbrev pub Tells : InHead → (Option DisplayExtension → Option DisplayExtension) → Type 0
+Tells y f = (rest : Option DisplayExtension) → display_by y rest ≡ f rest

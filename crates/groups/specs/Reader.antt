@@ -1,5 +1,5 @@
 -- Group g of a stream, as a computation: a view of the units that the walk finds.
-use Rattle.std.specs.Prelude.{ℕ, zero, suc, List, [], ◌∷◌, map, Bool, cond}
+use Rattle.std.specs.Prelude.{ℕ, zero, suc, List, [], ◌∷◌, map, Bool, cond, Option, Some, None}
 use Rattle.answers.specs.Answers.{Outcome, done, refused, and_then, NO_ROW}
 use Rattle.startcode.specs.Kinds.{kind_of}
 use Rattle.startcode.specs.declared.Kind.{Kind}
@@ -10,37 +10,36 @@ use Rattle.bodies.specs.declared.Scope.TheVariants as scope
 use Rattle.bodies.specs.declared.SequenceHeader.{SequenceHeader}
 use Rattle.grammar.specs.Grammar.{StreamUnit}
 use Rattle.grammar.specs.Reader.{is_kind, walk, said}
+use Rattle.bodies.specs.declared.DisplayExtension.{DisplayExtension}
 use Rattle.groups.specs.Groups.{GroupRecord}
-use Rattle.groups.specs.declared.Display.{Display}
-use Rattle.groups.specs.declared.Display.TheVariants as displayed
 
 -- Number 2 in a group's head is the display extension; after any other unit of the head the next ones are looked at.
-abbrev pub shown : Outcome Extension → Display → Display
-shown (done (display d)) rest = displayed.Given d
+abbrev pub shown : Outcome Extension → Option DisplayExtension → Option DisplayExtension
+shown (done (display d)) rest = Some d
 shown (done (copyright c)) rest = rest
 shown (done (opaque number)) rest = rest
 shown (refused number carried) rest = rest
 
 -- A group's head is what stands before its first picture: B2 and B5.
-abbrev pub in_head : Outcome Kind → List ℕ → Display → Display
-in_head (done kind.Slice) body rest = displayed.NotGiven
-in_head (done kind.SequenceHeader) body rest = displayed.NotGiven
-in_head (done kind.SequenceEnd) body rest = displayed.NotGiven
+abbrev pub in_head : Outcome Kind → List ℕ → Option DisplayExtension → Option DisplayExtension
+in_head (done kind.Slice) body rest = None
+in_head (done kind.SequenceHeader) body rest = None
+in_head (done kind.SequenceEnd) body rest = None
 in_head (done kind.UserData) body rest = rest
-in_head (done kind.IPicture) body rest = displayed.NotGiven
+in_head (done kind.IPicture) body rest = None
 in_head (done kind.Extension) body rest = shown (extension_of scope.Head body) rest
-in_head (done kind.PBPicture) body rest = displayed.NotGiven
-in_head (done kind.EditCode) body rest = displayed.NotGiven
-in_head (refused number carried) body rest = displayed.NotGiven
+in_head (done kind.PBPicture) body rest = None
+in_head (done kind.EditCode) body rest = None
+in_head (refused number carried) body rest = None
 
 -- the display extension of the head that these units go on
-unfoldable pub display_in : List StreamUnit → Display
-display_in [] = displayed.NotGiven
+unfoldable pub display_in : List StreamUnit → Option DisplayExtension
+display_in [] = None
 display_in (u ∷ us) = in_head (kind_of u.code) u.body (display_in us)
 
 -- the record of a group, by its sequence header's body and the display extension of its head; a stream that is good has no header that
 -- is refused
-abbrev pub group_of : Outcome SequenceHeader → Display → Outcome GroupRecord
+abbrev pub group_of : Outcome SequenceHeader → Option DisplayExtension → Outcome GroupRecord
 group_of (done header) d = done (record { header = header; display = d })
 group_of (refused number carried) d = refused NO_ROW []
 

@@ -8,24 +8,33 @@ ghost use Rattle.startcode.specs.Kinds.{kind_of};
 ghost use Rattle.grammar.specs.Reader.{is_kind};
 ghost use Rattle.groups.specs.Groups.{group_says};
 ghost use Rattle.groups.specs.Reader.{shown, in_head, display_in, group_of, group_in, group_at};
+ghost use Rattle.groups.specs.declared.GroupError.TheVariants.{Refused};
 ghost use Rattle.groups.specs.Inside.{Tells, units_from, Here};
 
 use bodies::{DisplayExtension, ExtensionAnswer, HeaderAnswer, Scope, SequenceHeader};
-use filing::{Checked, Refusal};
+use filing::Refusal;
 use startcode::{Kind, UnitKind};
 
-// The display extension of a group's head.
+// A group's header record, and the display extension of its head where that is given.
 #[derive(Clone, Copy)]
-pub enum Display {
-    Given(DisplayExtension),
-    NotGiven,
+pub struct Group {
+    pub header: SequenceHeader,
+    pub display: Option<DisplayExtension>,
 }
 
+// A stream has no such group, or is refused.
 #[derive(Clone, Copy)]
-pub enum GroupAnswer {
-    Group(SequenceHeader, Display),
+pub enum GroupError {
     NoRow,
     Refused(Refusal),
+}
+
+impl From<Refusal> for GroupError {
+    ghost from_gives = { λ why error. error ≡ Refused why };
+
+    fn from(why: Refusal) -> GroupError {
+        GroupError::Refused(why)
+    }
 }
 
 // What a unit after a sequence header is: the display extension, another unit of the group's head, or past it.
@@ -91,7 +100,7 @@ fn in_group_head(code: u8, body: &[u8]) -> InHead
 // ── from an offset on ──
 
 // The display extension of the group's head that goes on at an offset.
-fn display_from(stream: &[u8], from: usize) -> Display
+fn display_from(stream: &[u8], from: usize) -> Option<DisplayExtension>
     requires { Here stream.now from }
     ensures { result ≡ display_in (units_from stream.now from) }
 {
@@ -101,38 +110,41 @@ fn display_from(stream: &[u8], from: usize) -> Display
         let end = startcode::next_prefix(stream, code_at);
         let body_at = at + 4;
         if end < body_at {
-            return Display::NotGiven;
+            return None;
         }
         let code = stream[code_at];
         let body = &stream[body_at..end];
         match in_group_head(code, body) {
             InHead::Display(d) => {
-                return Display::Given(d);
+                return Some(d);
             }
             InHead::Other => {
                 at = end;
             }
             InHead::Past => {
-                return Display::NotGiven;
+                return None;
             }
         }
     }
-    Display::NotGiven
+    None
 }
 
 // The group whose sequence header has this body; its head goes on at an offset.
-fn group_here(stream: &[u8], body: &[u8], from: usize) -> GroupAnswer
+fn group_here(stream: &[u8], body: &[u8], from: usize) -> Result<Group, GroupError>
     requires { Here stream.now from }
     ensures { group_says result ≡ group_of (header_of body.now) (display_in (units_from stream.now from)) }
 {
     match bodies::sequence_header(body) {
-        HeaderAnswer::Header(header) => GroupAnswer::Group(header, display_from(stream, from)),
-        HeaderAnswer::Refused(_) => GroupAnswer::NoRow,
+        HeaderAnswer::Header(header) => Ok(Group {
+            header,
+            display: display_from(stream, from),
+        }),
+        HeaderAnswer::Refused(_) => Err(GroupError::NoRow),
     }
 }
 
 // Group g of a stream that begins with a start code. Of the groups before it nothing is read but the codes.
-fn group_number(stream: &[u8], g: usize) -> GroupAnswer
+fn group_number(stream: &[u8], g: usize) -> Result<Group, GroupError>
     requires { Here stream.now 0 }
     ensures { group_says result ≡ group_in g (units_from stream.now 0) }
 {
@@ -143,7 +155,7 @@ fn group_number(stream: &[u8], g: usize) -> GroupAnswer
         let end = startcode::next_prefix(stream, code_at);
         let body_at = at + 4;
         if end < body_at {
-            return GroupAnswer::NoRow;
+            return Err(GroupError::NoRow);
         }
         if begins_group(stream[code_at]) {
             if skip == 0 {
@@ -153,15 +165,13 @@ fn group_number(stream: &[u8], g: usize) -> GroupAnswer
         }
         at = end;
     }
-    GroupAnswer::NoRow
+    Err(GroupError::NoRow)
 }
 
 // Group g of a stream, counted from 0, or the stream's refusal.
-pub fn group_at(stream: &[u8], g: usize) -> GroupAnswer
+pub fn group_at(stream: &[u8], g: usize) -> Result<Group, GroupError>
     ensures { group_says result ≡ group_at stream.now g }
 {
-    match filing::check(stream) {
-        Checked::Good(_) => group_number(stream, g),
-        Checked::Refused(refusal) => GroupAnswer::Refused(refusal),
-    }
+    filing::check(stream)?;
+    group_number(stream, g)
 }

@@ -17,8 +17,6 @@ use Rattle.bodies.specs.declared.Colour.TheVariants as colour
 use Rattle.std.proofs.Common.{Option, Some, None}
 use Rattle.ratios.specs.declared.Fraction.{Fraction}
 use Rattle.groups.specs.Groups.{GroupRecord}
-use Rattle.groups.specs.declared.Display.{Display}
-use Rattle.groups.specs.declared.Display.TheVariants as shown
 use Rattle.statuses.specs.declared.Answer.{Answer}
 use Rattle.statuses.specs.Answers.{counted}
 use Rattle.handover.specs.Answers.{answered}
@@ -75,17 +73,17 @@ coloured_eight d = let h = colour_there d.colour in ((λ e. h.0 (omega arith)), 
 -- ── a group ──
 
 -- a display extension that is so is given
-abbrev pub Shown : (DisplayExtension → Type 0) → Display → Type 0
-Shown P s = (d : DisplayExtension) × (s ≡ shown.Given d) × P d
+abbrev pub Shown : (DisplayExtension → Type 0) → Option DisplayExtension → Type 0
+Shown P s = (d : DisplayExtension) × (s ≡ Some d) × P d
 
-no_display : (s : Display) → (length (shown_numbers s) ≡ 0) ↔ (s ≡ shown.NotGiven)
+no_display : (s : Option DisplayExtension) → (length (shown_numbers s) ≡ 0) ↔ (s ≡ None)
 unfolding display_numbers
-no_display shown.NotGiven = ((λ e. refl), (λ e. refl))
-no_display (shown.Given d) = ((λ e. absurd (omega arith)), (λ e. let z : ◌≡◌ {A = ℕ} 0 1 = cc in absurd (omega arith)))
+no_display None = ((λ e. refl), (λ e. refl))
+no_display (Some d) = ((λ e. absurd (omega arith)), (λ e. let z : ◌≡◌ {A = ℕ} 0 1 = cc in absurd (omega arith)))
 
-display_there : (P : DisplayExtension → Type 0) (n : ℕ) → 0 < n → ((d : DisplayExtension) → (length (display_numbers d) ≡ n) ↔ P d) → (s : Display) → (length (shown_numbers s) ≡ n) ↔ Shown P s
-display_there P n some exactly shown.NotGiven = ((λ e. absurd (omega arith)), (λ w. let e = w.1 in let z : ◌≡◌ {A = ℕ} 0 1 = cc in absurd (omega arith)))
-display_there P n some exactly (shown.Given d) = (
+display_there : (P : DisplayExtension → Type 0) (n : ℕ) → 0 < n → ((d : DisplayExtension) → (length (display_numbers d) ≡ n) ↔ P d) → (s : Option DisplayExtension) → (length (shown_numbers s) ≡ n) ↔ Shown P s
+display_there P n some exactly None = ((λ e. absurd (omega arith)), (λ w. let e = w.1 in let z : ◌≡◌ {A = ℕ} 0 1 = cc in absurd (omega arith)))
+display_there P n some exactly (Some d) = (
   (λ e. (d, refl, (exactly d).0 e)),
   (λ w. let e = w.1 in let q : w.0 ≡ d = cc in (exactly d).1 (subst P q w.2)),
 )
@@ -96,7 +94,7 @@ unfolding header_numbers
 after_header h ns n exactly = ((λ e. exactly.0 (omega arith)), (λ p. let z = exactly.1 p in omega arith))
 
 module _ (x : GroupRecord) where
-  pub group_bare : (length (group_numbers x) ≡ 14) ↔ (x.display ≡ shown.NotGiven)
+  pub group_bare : (length (group_numbers x) ≡ 14) ↔ (x.display ≡ None)
   group_bare = after_header x.header (shown_numbers x.display) 0 (no_display x.display)
 
   pub group_plain : (length (group_numbers x) ≡ 19) ↔ Shown Plain x.display

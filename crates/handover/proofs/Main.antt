@@ -16,7 +16,6 @@ use Rattle.ratios.specs.Ratios.{frame_rate, display_ratio}
 use Rattle.std.proofs.Common.{None}
 use Rattle.groups.specs.Groups.{GroupRecord}
 use Rattle.groups.specs.Reader.{group_at}
-use Rattle.groups.specs.declared.Display.TheVariants as shown
 use Rattle.statuses.specs.Answers.{counted, BitMarked}
 use Rattle.statuses.proofs.MarkLaws.{marked_fault}
 use Rattle.handover.specs.Answers.{answered}
@@ -36,7 +35,7 @@ display_ratio_none aspect lent = counts.none_counted (display_ratio aspect) lent
 -- A group, where there is room: the count is 14 exactly when its display extension is not given, 19 exactly when it is given without
 -- colour, and 22 exactly when it is given with colour.
 module _ (x : GroupRecord) (lent : List ℕ) (room : length (group_numbers x) ≤ length lent) where
-  pub group_bare : ((answered (done (group_numbers x)) lent).count ≡ 14) ↔ (x.display ≡ shown.NotGiven)
+  pub group_bare : ((answered (done (group_numbers x)) lent).count ≡ 14) ↔ (x.display ≡ None)
   group_bare = count_is (group_numbers x) lent room (counts.group_bare x)
 
   pub group_plain : ((answered (done (group_numbers x)) lent).count ≡ 19) ↔ Shown Plain x.display

@@ -12,8 +12,6 @@ use Rattle.ratios.specs.Ratios.{numerator, denominator}
 use Rattle.ratios.specs.declared.Fraction.{Fraction}
 use Rattle.macroblocks.specs.Macroblocks.{macroblock_columns, macroblock_rows}
 use Rattle.groups.specs.Groups.{GroupRecord}
-use Rattle.groups.specs.declared.Display.{Display}
-use Rattle.groups.specs.declared.Display.TheVariants as shown
 
 -- a sequence header, with its macroblock columns and rows
 unfoldable pub header_numbers : SequenceHeader → List ℕ
@@ -64,9 +62,9 @@ extension_numbers (opaque number) = number ∷ []
 
 -- ── a group ──
 
-abbrev pub shown_numbers : Display → List ℕ
-shown_numbers (shown.Given d) = display_numbers d
-shown_numbers shown.NotGiven = []
+abbrev pub shown_numbers : Option DisplayExtension → List ℕ
+shown_numbers (Some d) = display_numbers d
+shown_numbers None = []
 
 -- its header, and its display extension where that is given
 abbrev pub group_numbers : GroupRecord → List ℕ

@@ -14,7 +14,7 @@ use bodies::{
     Colour, CopyrightExtension, DisplayExtension, ExtensionAnswer, HeaderAnswer, Scope,
     SequenceHeader,
 };
-use groups::{Display, GroupAnswer};
+use groups::GroupError;
 use ratios::Fraction;
 use statuses::Answer;
 
@@ -26,7 +26,7 @@ fn hand_both(values: &[u64], more: &[u64], numbers: &mut [u64]) -> Answer
     let n = values.len();
     let count = n + more.len();
     if numbers.len() < count {
-        return statuses::refusal(12);
+        return statuses::refusal(statuses::FULL);
     }
     numbers[..n].copy_from_slice(values);
     numbers[n..n + more.len()].copy_from_slice(more);
@@ -64,7 +64,7 @@ fn hand_display(values: &[u64], d: DisplayExtension, numbers: &mut [u64]) -> Ans
 
 // A group's numbers.
 #[tactic(auto, unfolding(crate::specs::Numbers::header_numbers))]
-fn hand_group(h: SequenceHeader, display: Display, numbers: &mut [u64]) -> Answer
+fn hand_group(h: SequenceHeader, display: Option<DisplayExtension>, numbers: &mut [u64]) -> Answer
     ensures { Handed result numbers.new (done (header_numbers h ++ shown_numbers display)) numbers.old }
 {
     let values = [
@@ -84,8 +84,8 @@ fn hand_group(h: SequenceHeader, display: Display, numbers: &mut [u64]) -> Answe
         u64::from(macroblocks::macroblock_rows(h)),
     ];
     match display {
-        Display::Given(d) => hand_display(&values, d, numbers),
-        Display::NotGiven => hand_over(&values, numbers),
+        Some(d) => hand_display(&values, d, numbers),
+        None => hand_over(&values, numbers),
     }
 }
 
@@ -122,9 +122,9 @@ pub fn group(stream: &[u8], g: usize, numbers: &mut [u64]) -> Answer
     ensures numbers { numbers.new ≡ after (map_done group_numbers (group_at stream.now g)) numbers.old }
 {
     match groups::group_at(stream, g) {
-        GroupAnswer::Group(header, display) => hand_group(header, display, numbers),
-        GroupAnswer::NoRow => statuses::refusal(16),
-        GroupAnswer::Refused(why) => statuses::refused_stream(why),
+        Ok(group) => hand_group(group.header, group.display, numbers),
+        Err(GroupError::NoRow) => statuses::refusal(statuses::NO_ROW),
+        Err(GroupError::Refused(why)) => statuses::refused_stream(why),
     }
 }
 
@@ -134,7 +134,7 @@ pub fn sequence_header(body: &[u8], numbers: &mut [u64]) -> Answer
     ensures numbers { numbers.new ≡ after (map_done header_numbers (reader.header_of body.now)) numbers.old }
 {
     match bodies::sequence_header(body) {
-        HeaderAnswer::Header(h) => hand_group(h, Display::NotGiven, numbers),
+        HeaderAnswer::Header(h) => hand_group(h, None, numbers),
         HeaderAnswer::Refused(why) => statuses::refused_body(why),
     }
 }
@@ -158,7 +158,7 @@ pub fn extension(body: &[u8], head: bool, numbers: &mut [u64]) -> Answer
     }
 }
 
-// The frame rate of a code, given or not given.
+// The frame rate of a code, given or not given. It and display_ratio are two: C has a name for each.
 pub fn frame_rate(code: u32, numbers: &mut [u64]) -> Answer
     ensures answer { result ≡ answered (done (ratio_numbers (frame_rate code))) numbers.old }
     ensures numbers { numbers.new ≡ after (done (ratio_numbers (frame_rate code))) numbers.old }

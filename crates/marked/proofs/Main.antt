@@ -12,7 +12,8 @@ use Rattle.answers.specs.Answers.{Carried, Outcome, done, refused, map_done, PAY
 use Rattle.answers.specs.Answers as answers
 use Rattle.answers.specs.Missing.{SaysMissing, says_done, says_none, says_out, missing_in}
 use Rattle.answers.proofs.OutcomeLaws.{map_done_lem}
-use Rattle.payload.specs.Golomb.{Numbered, stands_for, with_sign}
+use Rattle.payload.specs.declared.Numbered.{Numbered}
+use Rattle.payload.specs.Golomb.{stands_for, with_sign}
 use Rattle.payload.specs.Reader.{golomb, signed_golomb}
 use Rattle.payload.proofs.GolombLaws.{golomb_bound}
 use Rattle.payload.proofs.Main as payload

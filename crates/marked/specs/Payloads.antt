@@ -3,7 +3,7 @@
 use Rattle.std.specs.Prelude.{ℕ, ◌≡◌, cond, ◌≢◌, ◌↔◌, eqb, ℤ, pos, neg_ℤ}
 use Rattle.answers.specs.Answers.{Outcome, done, refused, PAYLOAD_OUT}
 use Rattle.answers.specs.Missing.{missing_in}
-use Rattle.payload.specs.Golomb.{Numbered}
+use Rattle.payload.specs.declared.Numbered.{Numbered}
 use Rattle.rates.specs.declared.Rate.TheVariants.{Three, Four, Five}
 use Rattle.entries.specs.Entries.{entry_of}
 use Rattle.entries.specs.declared.Entry.{Entry}

@@ -10,9 +10,10 @@ ghost use Rattle.aec.specs.Says.{refusal_number, refusal_carries, stepped_says};
 ghost use Rattle.marked.specs.Payloads.{no_number, no_signed_number, number_answer, signed_answer, begun_answer, plain_answer, bin_answer, pair_answer, entry_number, entry_answer};
 
 use aec::{StartError, State, Stepped};
+use bits::Payload;
 use contexts::Context;
 use entries::Entry;
-use payload::{Golomb, SignedGolomb};
+use payload::GolombError;
 use rates::Rate;
 
 // An Exp-Golomb number with the place after it.
@@ -110,16 +111,17 @@ fn no_signed_number(status: u32, missing: u32, place: usize) -> SignedNumber
 pub fn unsigned_golomb(bytes: &[u8], bits: usize, place: usize) -> Number
     ensures { result ≡ number_answer place (golomb bytes.now bits place) }
 {
-    match payload::unsigned_golomb(bytes, bits, place) {
-        Golomb::Number(n, next) => Number {
+    let payload = Payload { bytes, count: bits };
+    match payload::unsigned_golomb(&payload, place) {
+        Ok(found) => Number {
             status: 0,
             missing: 0,
-            number: n,
-            place: next,
+            number: found.number,
+            place: found.next,
         },
-        Golomb::Value => no_number(8, 0, place),
-        Golomb::TooLong => no_number(13, 0, place),
-        Golomb::PayloadOut(missing) => no_number(14, missing, place),
+        Err(GolombError::Value) => no_number(8, 0, place),
+        Err(GolombError::TooLong) => no_number(13, 0, place),
+        Err(GolombError::PayloadOut(missing)) => no_number(14, missing, place),
     }
 }
 
@@ -127,16 +129,17 @@ pub fn unsigned_golomb(bytes: &[u8], bits: usize, place: usize) -> Number
 pub fn signed_golomb(bytes: &[u8], bits: usize, place: usize) -> SignedNumber
     ensures { result ≡ signed_answer place (signed_golomb bytes.now bits place) }
 {
-    match payload::signed_golomb(bytes, bits, place) {
-        SignedGolomb::Number(n, next) => SignedNumber {
+    let payload = Payload { bytes, count: bits };
+    match payload::signed_golomb(&payload, place) {
+        Ok(found) => SignedNumber {
             status: 0,
             missing: 0,
-            number: n,
-            place: next,
+            number: found.number,
+            place: found.next,
         },
-        SignedGolomb::Value => no_signed_number(8, 0, place),
-        SignedGolomb::TooLong => no_signed_number(13, 0, place),
-        SignedGolomb::PayloadOut(missing) => no_signed_number(14, missing, place),
+        Err(GolombError::Value) => no_signed_number(8, 0, place),
+        Err(GolombError::TooLong) => no_signed_number(13, 0, place),
+        Err(GolombError::PayloadOut(missing)) => no_signed_number(14, missing, place),
     }
 }
 

@@ -1,5 +1,7 @@
 -- The laws of Exp-Golomb reading: counting zeros by index, and the bounds of a number.
-use Rattle.std.proofs.Common.{Ok}
+use Rattle.std.specs.Prelude.{Result, Ok, Err}
+use Rattle.std.specs.Result.{IsErrAnd}
+use Rattle.payload.specs.Golomb.{golomb_says, golomb_refused}
 use Prim.Native.Nat.{ℕ, zero, suc, ◌+◌, ◌-◌, ◌*◌, ◌^◌, ◌≤◌, ◌<◌}
 use mathlib.Core.Path.{◌≡◌, refl, sym, ap, ◌∙◌}
 use mathlib.Core.List.{List, [], ◌∷◌}
@@ -14,26 +16,40 @@ use Rattle.answers.specs.Limits.{longest_payload}
 use Rattle.bits.specs.Bits.{payload, read_at}
 use Rattle.bits.proofs.TestLaws.{by_test}
 use Rattle.answers.proofs.OutcomeLaws.{not_done}
+use Rattle.answers.proofs.ResultLaws.{not_ok, ok_same}
 use Rattle.bits.proofs.BitLaws.{length_payload}
 use Rattle.bits.proofs.Main.{read_exactly}
 use Rattle.bits.proofs.ReadLaws.{found_value}
-use Rattle.payload.specs.Golomb.{Numbered}
+use Rattle.payload.specs.declared.Numbered.{Numbered}
 use Rattle.payload.specs.Reader.{zeros_on, golomb_after, golomb}
-use Rattle.payload.specs.declared.Zeros.{Zeros}
-use Rattle.payload.specs.declared.Zeros.TheVariants.{Before, TooMany, Missing}
+use Rattle.payload.specs.declared.GolombError.{GolombError}
+use Rattle.payload.specs.declared.GolombError.TheVariants.{Value, TooLong, PayloadOut}
+
+-- ── a refusal that is passed on ──
+
+pub refused_as : {A : Type 0} (r : Result (Numbered A) GolombError) (why : GolombError) → IsErrAnd r (λ other. other ≡ why) → golomb_says r ≡ golomb_refused why
+refused_as (Ok n) why h = absurd h
+refused_as (Err other) why h = ap golomb_refused h
 
 -- ── the loop over zeros ──
 
+-- what zeros are counted as, and why none are
+abbrev pub Zeros : Type 0
+Zeros = Result (Numbered ℕ) GolombError
+
+abbrev pub before : ℕ → ℕ → Zeros
+before z next = Ok (record { number = z; next = next })
+
 -- the zeros from place `at` of l on, after z of them; 32 are too many
 abbrev pub zeros_from : ℕ → ℕ → List ℕ → Zeros
-zeros_from z at l = cond (eqb z 32) TooMany (zeros_on z at (drop at l))
+zeros_from z at l = cond (eqb z 32) (Err Value) (zeros_on z at (drop at l))
 
-on_zero : (z at b : ℕ) (t : List ℕ) → b ≡ 0 → zeros_on z at (b ∷ t) ≡ cond (eqb z 31) TooMany (zeros_on (z + 1) (at + 1) t)
+on_zero : (z at b : ℕ) (t : List ℕ) → b ≡ 0 → zeros_on z at (b ∷ t) ≡ cond (eqb z 31) (Err Value) (zeros_on (z + 1) (at + 1) t)
 unfolding zeros_on
 on_zero z at zero t e = refl
 on_zero z at (suc b) t e = absurd (omega arith)
 
-on_one : (z at b : ℕ) (t : List ℕ) → (b ≡ 0 → ⊥) → zeros_on z at (b ∷ t) ≡ Before z (at + 1)
+on_one : (z at b : ℕ) (t : List ℕ) → (b ≡ 0 → ⊥) → zeros_on z at (b ∷ t) ≡ before z (at + 1)
 unfolding zeros_on
 on_one z at zero t h = absurd (h refl)
 on_one z at (suc b) t h = refl
@@ -48,28 +64,25 @@ module _ (z at : ℕ) (l : List ℕ) (h : z < 32) where
       by_test (eqb z 31) (λ y. y ∙ sym (eq-eqb (z + 1) 32 (let k = eqb-true z 31 y in omega arith))) (λ n. n ∙ sym (ne_eqb (z + 1) 32 (λ k. eqb-false z 31 n (omega arith)))) in
       not_yet ∙ ap (zeros_on z at) d ∙ on_zero z at b (drop (at + 1) l) e ∙ rw last
 
-  pub zeros_one : (b : ℕ) (t : List ℕ) → drop at l ≡ b ∷ t → (b ≡ 0 → ⊥) → zeros_from z at l ≡ Before z (at + 1)
+  pub zeros_one : (b : ℕ) (t : List ℕ) → drop at l ≡ b ∷ t → (b ≡ 0 → ⊥) → zeros_from z at l ≡ before z (at + 1)
   zeros_one b t d n = not_yet ∙ ap (zeros_on z at) d ∙ on_one z at b t n
 
-  pub zeros_out : drop at l ≡ [] → zeros_from z at l ≡ Missing
+  pub zeros_out : drop at l ≡ [] → zeros_from z at l ≡ Err (PayloadOut 1)
   unfolding zeros_on
   zeros_out d = not_yet ∙ rw d
 
 -- ── bounds ──
 
 -- a 1 after at most 31 zeros stands among the bits
-pub before_bounds : (z at : ℕ) (t : List ℕ) (y next : ℕ) → z ≤ 31 → zeros_on z at t ≡ Before y next → (y ≤ 31) × (next ≤ at + length t) × (0 < length t)
+pub before_bounds : (z at : ℕ) (t : List ℕ) (y : Numbered ℕ) → z ≤ 31 → zeros_on z at t ≡ Ok y → (y.number ≤ 31) × (y.next ≤ at + length t) × (0 < length t)
 unfolding zeros_on
-before_bounds z at [] y next h e = let n : ◌≡◌ {A = ℕ} 0 1 = cc in absurd (omega arith)
-before_bounds z at (zero ∷ t) y next h e =
-    let r = before_bounds (z + 1) (at + 1) t y next in
+before_bounds z at [] y h e = not_ok e
+before_bounds z at (zero ∷ t) y h e =
+    let r = before_bounds (z + 1) (at + 1) t y in
     by_test (eqb z 31)
-    (λ q. let m : TooMany ≡ Before y next = rw q at e in let n : ◌≡◌ {A = ℕ} 0 1 = cc in absurd (omega arith))
-    (λ q. let m : zeros_on (z + 1) (at + 1) t ≡ Before y next = rw q at e in let k = eqb-false z 31 q in let b = r (omega arith) m in (b.0, omega (arith, b.1), omega arith))
-before_bounds z at (suc b ∷ t) y next h e =
-    let p : z ≡ y = cc in
-    let q : at + 1 ≡ next = cc in
-    (omega arith, omega arith, omega arith)
+    (λ q. let m : ◌≡◌ {A = Zeros} (Err Value) (Ok y) = rw q at e in not_ok m)
+    (λ q. let m : zeros_on (z + 1) (at + 1) t ≡ Ok y = rw q at e in let k = eqb-false z 31 q in let b = r (omega arith) m in (b.0, omega (arith, b.1), omega arith))
+before_bounds z at (suc b ∷ t) y h e = rw (← ok_same e) (omega arith, omega arith, omega arith)
 
 -- ── the number ──
 
@@ -93,9 +106,9 @@ module _ (bytes : List ℕ) (count place : ℕ) where
   golomb_after_lem zs h e = simp (le-ltb longest_payload (length bytes) h, e)
 
   -- the zeros before a 1 that is there, and the place after it
-  pub zeros_bounds : (z next : ℕ) → zeros_on 0 place (drop place (payload bytes count)) ≡ Before z next → (z ≤ 31) × (next ≤ length bytes * 8)
-  zeros_bounds z next e =
-      let b = before_bounds 0 place (drop place (payload bytes count)) z next (omega arith) e in
+  pub zeros_bounds : (zs : Numbered ℕ) → zeros_on 0 place (drop place (payload bytes count)) ≡ Ok zs → (zs.number ≤ 31) × (zs.next ≤ length bytes * 8)
+  zeros_bounds zs e =
+      let b = before_bounds 0 place (drop place (payload bytes count)) zs (omega arith) e in
       let d = length-drop place (payload bytes count) in
       let l = length_payload bytes count in
       (b.0, omega (arith, b.1, b.2))
@@ -108,13 +121,15 @@ module _ (bytes : List ℕ) (count place : ℕ) where
   number_lt z next b h e = let s = suffix_lt z next b e in omega (arith, pow_mono {i = z} {j = 31} h, pow_pos z)
 
   after_bound : (zs : Zeros) (m : Numbered ℕ) → zeros_on 0 place (drop place (payload bytes count)) ≡ zs → golomb_after (payload bytes count) zs ≡ done m → m.number < 4294967295
-  after_bound (Before z next) m e q =
-      let (b, is, f) = found_value _ _ (read_at (payload bytes count) next z) m (λ n e. not_done e) q in
+  after_bound (Ok zs) m e q =
+      let z = zs.number in
+      let (b, is, f) = found_value _ _ (read_at (payload bytes count) zs.next z) m (λ n e. not_done e) q in
       let n : 2 ^ z - 1 + b ≡ m.number = number_of_lem f in
-      let k = number_lt z next b (zeros_bounds z next e).0 is in
+      let k = number_lt z zs.next b (zeros_bounds zs e).0 is in
       omega arith
-  after_bound TooMany m e q = not_done q
-  after_bound Missing m e q = not_done q
+  after_bound (Err Value) m e q = not_done q
+  after_bound (Err TooLong) m e q = not_done q
+  after_bound (Err (PayloadOut n)) m e q = not_done q
 
   -- a number is below 2^32 - 1, so it and its signed form fit 32 bits
   pub golomb_bound : (m : Numbered ℕ) → golomb bytes count place ≡ done m → m.number < 4294967295

@@ -20,9 +20,11 @@ use Rattle.bits.proofs.BitLaws.{Binary, all_payload, length_in, leading}
 use Rattle.bits.proofs.Main.{read_exactly, missing_exactly}
 use Rattle.bits.proofs.ReadLaws.{read_there}
 use Rattle.bits.proofs.LimitLaws.{of_bits, long_exactly, says_whole}
-use Rattle.payload.specs.Golomb.{Numbered, with_sign, Coded, TooManyZeros, EndsFirst, before_one, after_one}
+use Rattle.payload.specs.declared.Numbered.{Numbered}
+use Rattle.payload.specs.Golomb.{with_sign, Coded, TooManyZeros, EndsFirst, before_one, after_one}
 use Rattle.payload.specs.Reader.{zeros_on, number_of, golomb_after, golomb, signed_golomb}
-use Rattle.payload.specs.declared.Zeros.TheVariants.{Before, TooMany, Missing}
+use Rattle.payload.specs.declared.GolombError.TheVariants.{Value, PayloadOut}
+use Rattle.std.specs.Prelude.{Ok, Err}
 use Rattle.payload.proofs.GolombLaws.{golomb_long, golomb_after_lem}
 
 -- ── zeros ──
@@ -40,17 +42,17 @@ zeros_skip (suc n) z at l h =
     rw (ne_eqb z 31 (λ e. omega arith)) (zeros_skip n (z + 1) (at + 1) l (omega arith) ∙ (λ k. zeros_on (p k) (q k) l))
 
 -- then a 1, or no bit
-zeros_before : (z at : ℕ) (l : List ℕ) → z ≤ 31 → zeros_on 0 at (replicate z 0 ++ (1 ∷ l)) ≡ Before z (at + z + 1)
+zeros_before : (z at : ℕ) (l : List ℕ) → z ≤ 31 → zeros_on 0 at (replicate z 0 ++ (1 ∷ l)) ≡ Ok (record { number = z; next = at + z + 1 })
 unfolding zeros_on
 zeros_before z at l h =
     let p : 0 + z ≡ z = omega arith in
-    zeros_skip z 0 at (1 ∷ l) (omega arith) ∙ (λ k. Before (p k) (at + z + 1))
+    zeros_skip z 0 at (1 ∷ l) (omega arith) ∙ (λ k. Ok (record { number = p k; next = at + z + 1 }))
 
-zeros_missing : (z at : ℕ) → z ≤ 31 → zeros_on 0 at (replicate z 0 ++ []) ≡ Missing
+zeros_missing : (z at : ℕ) → z ≤ 31 → zeros_on 0 at (replicate z 0 ++ []) ≡ Err (PayloadOut 1)
 unfolding zeros_on
 zeros_missing z at h = zeros_skip z 0 at [] (omega arith)
 
-zeros_many : (at : ℕ) (l : List ℕ) → zeros_on 0 at (replicate 32 0 ++ l) ≡ TooMany
+zeros_many : (at : ℕ) (l : List ℕ) → zeros_on 0 at (replicate 32 0 ++ l) ≡ Err Value
 unfolding zeros_on
 zeros_many at l = refl
 

@@ -3,13 +3,15 @@ use Prim.Native.Nat.{ℕ, ◌≤◌, ◌<◌}
 use mathlib.Core.Path.{◌≡◌}
 use mathlib.Core.Logic.{◌↔◌}
 use mathlib.Core.List.{List, []}
+use lib.IntN.{ℤ}
 use lib.ListN.{length}
 use Rattle.answers.specs.Answers.{done, refused, map_done, VALUE, TOO_LONG, OneToOne}
 use Rattle.answers.specs.Limits.{longest_payload}
 use Rattle.answers.specs.Missing.{payload_out, SaysMissing}
 use Rattle.bits.specs.Bits.{payload}
 use Rattle.payload.specs.Escape.{unescaped, removal, output_after, removed_says}
-use Rattle.payload.specs.Golomb.{Numbered, with_sign, Coded, TooManyZeros, EndsFirst, golomb_says, signed_says}
+use Rattle.payload.specs.declared.Numbered.{Numbered}
+use Rattle.payload.specs.Golomb.{with_sign, Coded, TooManyZeros, EndsFirst, golomb_says}
 use Rattle.payload.specs.Reader.{golomb, signed_golomb}
 use Rattle.payload.proofs.Theorems as proof
 use Rattle.payload.proofs.GolombTheorems as exactly
@@ -54,8 +56,8 @@ signed_is = exactly.signed_is
 pub removed_one_to_one : OneToOne removed_says
 removed_one_to_one = proof.removed_one_to_one
 
-pub golomb_one_to_one : OneToOne golomb_says
+pub golomb_one_to_one : OneToOne (golomb_says {A = ℕ})
 golomb_one_to_one = proof.golomb_one_to_one
 
-pub signed_one_to_one : OneToOne signed_says
-signed_one_to_one = proof.signed_one_to_one
+pub signed_one_to_one : OneToOne (golomb_says {A = ℤ})
+signed_one_to_one = proof.golomb_one_to_one

@@ -1,10 +1,10 @@
 -- What removal wrote is read back, and answers are told apart by their numbers and values.
+use Rattle.std.specs.Prelude.{Result, Ok, Err}
 use Prim.Native.Nat.{ℕ}
 use mathlib.Core.Path.{◌≡◌, refl}
 use mathlib.Core.List.{List, [], ◌∷◌}
 use mathlib.Core.Bool.{cond}
 use lib.Dec.{eqb, ltb}
-use lib.IntN.{ℤ}
 use lib.ListN.{length, drop}
 use Rattle.answers.specs.Answers.{Outcome, done, refused, VALUE, FULL, TOO_LONG, OneToOne}
 use Rattle.answers.specs.Missing.{missing_in}
@@ -18,13 +18,12 @@ use Rattle.bits.proofs.BitLaws.{Binary, all_in}
 use Rattle.bits.proofs.Main.{unpacked}
 use Rattle.payload.specs.Escape.{kept, copied, unescaped, removal, output_after, removed_says}
 use Rattle.payload.specs.Inside.{kept_width}
-use Rattle.payload.specs.Golomb.{Numbered, golomb_says, signed_says}
-use Rattle.payload.specs.declared.Removed.{Removed}
-use Rattle.payload.specs.declared.Removed.TheVariants as removed
-use Rattle.payload.specs.declared.Golomb.{Golomb}
-use Rattle.payload.specs.declared.Golomb.TheVariants as unsigned
-use Rattle.payload.specs.declared.SignedGolomb.{SignedGolomb}
-use Rattle.payload.specs.declared.SignedGolomb.TheVariants as signed
+use Rattle.payload.specs.Golomb.{golomb_says}
+use Rattle.payload.specs.declared.Numbered.{Numbered}
+use Rattle.payload.specs.declared.RemovalError.{RemovalError}
+use Rattle.payload.specs.declared.RemovalError.TheVariants.{Full, TooLong}
+use Rattle.payload.specs.declared.GolombError.{GolombError}
+use Rattle.payload.specs.declared.GolombError.TheVariants as why
 use Rattle.payload.proofs.EscapeLaws.{kept_width_lem, zero_run}
 
 -- ── what removal wrote ──
@@ -54,44 +53,29 @@ removed_payload raw output count e =
 
 -- ── answers and their numbers ──
 
-removed_of : Outcome ℕ → Removed
-removed_of (done count) = removed.Done count
-removed_of (refused number carried) = cond (eqb number FULL) removed.Full removed.TooLong
+removed_of : Outcome ℕ → Result ℕ RemovalError
+removed_of (done count) = Ok count
+removed_of (refused number carried) = Err (cond (eqb number FULL) Full TooLong)
 
-removed_undone : (a : Removed) → removed_of (removed_says a) ≡ a
+removed_undone : (a : Result ℕ RemovalError) → removed_of (removed_says a) ≡ a
 unfolding removed_of
-removed_undone (removed.Done count) = refl
-removed_undone removed.Full = refl
-removed_undone removed.TooLong = refl
+removed_undone (Ok count) = refl
+removed_undone (Err Full) = refl
+removed_undone (Err TooLong) = refl
 
 pub removed_one_to_one : OneToOne removed_says
 removed_one_to_one = undone removed_says removed_of removed_undone
 
 -- the answer of an Exp-Golomb number, by what it says
-abbrev answer_of : {A B : Type 0} → (A → ℕ → B) → B → B → (ℕ → B) → Outcome (Numbered A) → B
-answer_of number value long out (done m) = number m.number m.next
-answer_of number value long out (refused n carried) = cond (eqb n VALUE) value (cond (eqb n TOO_LONG) long (out (missing_in carried)))
-
-pub golomb_one_to_one : OneToOne golomb_says
-golomb_one_to_one = undone golomb_says back is
+pub golomb_one_to_one : {A : Type 0} → OneToOne (golomb_says {A = A})
+golomb_one_to_one {A} = undone golomb_says back is
   where
-    back : Outcome (Numbered ℕ) → Golomb
-    back = answer_of unsigned.Number unsigned.Value unsigned.TooLong unsigned.PayloadOut
+    back : Outcome (Numbered A) → Result (Numbered A) GolombError
+    back (done m) = Ok m
+    back (refused n carried) = Err (cond (eqb n VALUE) why.Value (cond (eqb n TOO_LONG) why.TooLong (why.PayloadOut (missing_in carried))))
 
-    is : (a : Golomb) → back (golomb_says a) ≡ a
-    is (unsigned.Number n next) = refl
-    is unsigned.Value = refl
-    is unsigned.TooLong = refl
-    is (unsigned.PayloadOut m) = refl
-
-pub signed_one_to_one : OneToOne signed_says
-signed_one_to_one = undone signed_says back is
-  where
-    back : Outcome (Numbered ℤ) → SignedGolomb
-    back = answer_of signed.Number signed.Value signed.TooLong signed.PayloadOut
-
-    is : (a : SignedGolomb) → back (signed_says a) ≡ a
-    is (signed.Number n next) = refl
-    is signed.Value = refl
-    is signed.TooLong = refl
-    is (signed.PayloadOut m) = refl
+    is : (a : Result (Numbered A) GolombError) → back (golomb_says a) ≡ a
+    is (Ok m) = refl
+    is (Err why.Value) = refl
+    is (Err why.TooLong) = refl
+    is (Err (why.PayloadOut m)) = refl

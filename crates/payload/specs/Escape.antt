@@ -1,10 +1,10 @@
 -- Removal of escape bits.
-use Rattle.std.specs.Prelude.{ℕ, List, [], ◌∷◌, ◌++◌, cond, ◌&&◌, eqb, ltb, length, take, drop}
+use Rattle.std.specs.Prelude.{ℕ, List, [], ◌∷◌, ◌++◌, cond, ◌&&◌, eqb, ltb, length, take, drop, Result, Ok, Err}
 use Rattle.answers.specs.Answers.{Outcome, done, refused, refuse_if, FULL, TOO_LONG}
 use Rattle.answers.specs.Limits.{longest_payload}
 use Rattle.bits.specs.Bits.{bits_in, pack}
-use Rattle.payload.specs.declared.Removed.{Removed}
-use Rattle.payload.specs.declared.Removed.TheVariants as removed
+use Rattle.payload.specs.declared.RemovalError.{RemovalError}
+use Rattle.payload.specs.declared.RemovalError.TheVariants.{Full, TooLong}
 
 -- The bits that stay of a raw byte, by the raw bytes before it in the payload, the nearest first:
 -- of an 02 after two 00 the last two bits are dropped.
@@ -35,7 +35,7 @@ output_after (done count) raw output = pack (unescaped raw) ++ drop (length (pac
 output_after (refused number carried) raw output = output
 
 -- the numbers of `remove_escapes`' answers
-abbrev pub removed_says : Removed → Outcome ℕ
-removed_says (removed.Done count) = done count
-removed_says removed.Full = refused FULL []
-removed_says removed.TooLong = refused TOO_LONG []
+abbrev pub removed_says : Result ℕ RemovalError → Outcome ℕ
+removed_says (Ok count) = done count
+removed_says (Err Full) = refused FULL []
+removed_says (Err TooLong) = refused TOO_LONG []

@@ -1,17 +1,13 @@
 -- Exp-Golomb numbers: "z zeros, a 1, then z bits of value b; number = 2^z - 1 + b, answered with the place after it".
-use Rattle.std.specs.Prelude.{ℕ, ◌+◌, ◌-◌, ◌/◌, ◌%◌, ◌^◌, ◌≤◌, ◌<◌, ◌≡◌, List, [], ◌∷◌, ◌++◌, cond, eqb, ℤ, pos, neg_ℤ, length, drop, replicate}
+use Rattle.std.specs.Prelude.{ℕ, ◌+◌, ◌-◌, ◌/◌, ◌%◌, ◌^◌, ◌≤◌, ◌<◌, ◌≡◌, List, [], ◌∷◌, ◌++◌, cond, eqb, ℤ, pos, neg_ℤ, length, drop, replicate, Result, Ok, Err}
 use Rattle.answers.specs.Answers.{Outcome, done, refused, VALUE, TOO_LONG}
 use Rattle.answers.specs.Missing.{payload_out}
 use Rattle.bits.specs.Bits.{bits_in}
-use Rattle.payload.specs.declared.Golomb.{Golomb}
-use Rattle.payload.specs.declared.Golomb.TheVariants as unsigned
-use Rattle.payload.specs.declared.SignedGolomb.{SignedGolomb}
-use Rattle.payload.specs.declared.SignedGolomb.TheVariants as signed
-
--- a number with the place after it
-pub record Numbered (A : Type 0) : Type 0 where
-  pub number : A
-  pub next : ℕ
+use Rattle.bits.specs.declared.ReadError.{ReadError}
+use Rattle.bits.specs.declared.ReadError.TheVariants.{Missing, TooWide}
+use Rattle.payload.specs.declared.Numbered.{Numbered}
+use Rattle.payload.specs.declared.GolombError.{GolombError}
+use Rattle.payload.specs.declared.GolombError.TheVariants.{Value, TooLong, PayloadOut}
 
 -- ── how the bits from a place on begin ──
 
@@ -47,14 +43,17 @@ with_sign n = record { number = stands_for n.number; next = n.next }
 
 -- ── the numbers of the answers ──
 
-abbrev pub golomb_says : Golomb → Outcome (Numbered ℕ)
-golomb_says (unsigned.Number n next) = done (record { number = n; next = next })
-golomb_says unsigned.Value = refused VALUE []
-golomb_says unsigned.TooLong = refused TOO_LONG []
-golomb_says (unsigned.PayloadOut m) = payload_out m
+-- of a refusal
+abbrev pub golomb_refused : {A : Type 0} → GolombError → Outcome A
+golomb_refused Value = refused VALUE []
+golomb_refused TooLong = refused TOO_LONG []
+golomb_refused (PayloadOut m) = payload_out m
 
-abbrev pub signed_says : SignedGolomb → Outcome (Numbered ℤ)
-signed_says (signed.Number n next) = done (record { number = n; next = next })
-signed_says signed.Value = refused VALUE []
-signed_says signed.TooLong = refused TOO_LONG []
-signed_says (signed.PayloadOut m) = payload_out m
+abbrev pub golomb_says : {A : Type 0} → Result (Numbered A) GolombError → Outcome (Numbered A)
+golomb_says (Ok n) = done n
+golomb_says (Err why) = golomb_refused why
+
+-- of the bits after the 1 that are not there; they are never too many
+abbrev pub read_refused : ReadError → GolombError
+read_refused (Missing m) = PayloadOut m
+read_refused TooWide = Value

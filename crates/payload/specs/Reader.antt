@@ -1,28 +1,28 @@
 -- What is computed of Exp-Golomb numbers: the zeros before the first 1, and then one read. proofs/Main.antt says when it gives what.
-use Rattle.std.specs.Prelude.{ℕ, zero, suc, ◌+◌, ◌-◌, ◌^◌, List, [], ◌∷◌, cond, eqb, ltb, ℤ, length, drop, Result}
-use Rattle.answers.specs.Answers.{Outcome, done, refused, refuse_if, map_done, VALUE, TOO_LONG}
+use Rattle.std.specs.Prelude.{ℕ, zero, suc, ◌+◌, ◌-◌, ◌^◌, List, [], ◌∷◌, cond, eqb, ltb, ℤ, length, drop, Result, Ok, Err}
+use Rattle.answers.specs.Answers.{Outcome, done, refuse_if, map_done, TOO_LONG}
 use Rattle.answers.specs.Limits.{longest_payload}
 use Rattle.answers.specs.Missing.{payload_out}
 use Rattle.bits.specs.Bits.{payload, read_at, read_or}
-use Rattle.payload.specs.Golomb.{Numbered, with_sign}
-use Rattle.payload.specs.declared.Zeros.{Zeros}
-use Rattle.payload.specs.declared.Zeros.TheVariants as zeros
+use Rattle.payload.specs.Golomb.{with_sign, golomb_refused}
+use Rattle.payload.specs.declared.Numbered.{Numbered}
+use Rattle.payload.specs.declared.GolombError.{GolombError}
+use Rattle.payload.specs.declared.GolombError.TheVariants.{Value, PayloadOut}
 
--- After z zeros, with the bits from `place` on: the zeros before the first 1, and the place after that 1.
--- TooMany at the 32nd zero, Missing where the bits end first: of bits that are read one by one, one.
-unfoldable pub zeros_on : ℕ → ℕ → List ℕ → Zeros
-zeros_on z place [] = zeros.Missing
-zeros_on z place (zero ∷ bits) = cond (eqb z 31) zeros.TooMany (zeros_on (z + 1) (place + 1) bits)
-zeros_on z place (suc b ∷ bits) = zeros.Before z (place + 1)
+-- After z zeros, with the bits from `place` on: how many zeros stand before the first 1, and the place after that 1.
+-- Value at the 32nd zero, PayloadOut where the bits end first: of bits that are read one by one, one is missing.
+unfoldable pub zeros_on : ℕ → ℕ → List ℕ → Result (Numbered ℕ) GolombError
+zeros_on z place [] = Err (PayloadOut 1)
+zeros_on z place (zero ∷ bits) = cond (eqb z 31) (Err Value) (zeros_on (z + 1) (place + 1) bits)
+zeros_on z place (suc b ∷ bits) = Ok (record { number = z; next = place + 1 })
 
 -- with the z bits of value b, one read from the place after the 1
 abbrev pub number_of : ℕ → ℕ → Result ℕ ℕ → Outcome (Numbered ℕ)
 number_of z place = read_or (λ b. done (record { number = 2 ^ z - 1 + b; next = place + z })) payload_out
 
-abbrev pub golomb_after : List ℕ → Zeros → Outcome (Numbered ℕ)
-golomb_after bits (zeros.Before z place) = number_of z place (read_at bits place z)
-golomb_after bits zeros.TooMany = refused VALUE []
-golomb_after bits zeros.Missing = payload_out 1
+abbrev pub golomb_after : List ℕ → Result (Numbered ℕ) GolombError → Outcome (Numbered ℕ)
+golomb_after bits (Ok zeros) = number_of zeros.number zeros.next (read_at bits zeros.next zeros.number)
+golomb_after bits (Err why) = golomb_refused why
 
 -- the unsigned number at a place of a payload
 unfoldable pub golomb : List ℕ → ℕ → ℕ → Outcome (Numbered ℕ)

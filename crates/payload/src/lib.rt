@@ -5,7 +5,7 @@ ghost use Rattle.std.specs.Prelude.{◌≡◌, cond, [], ◌++◌, ◌+◌, ◌*
 ghost use Rattle.answers.specs.Limits.{longest_payload};
 ghost use Rattle.bits.specs.Bits.{bits_in, pack_on, payload};
 ghost use Rattle.payload.specs.Escape.{removal, output_after, removed_says};
-ghost use Rattle.payload.specs.Golomb.{golomb_says, stands_for, signed_says};
+ghost use Rattle.payload.specs.Golomb.{golomb_says, read_refused, stands_for};
 ghost use Rattle.payload.specs.Reader.{zeros_on, golomb, signed_golomb};
 ghost use Rattle.payload.specs.Inside.{kept_width, Partial, waits, Joined, Pushable, Pushed, Copied};
 
@@ -16,10 +16,9 @@ const LIMIT: usize = 65536;
 
 // ── escape removal ──
 
-// Done with the bit count.
-#[derive(Clone, Copy)]
-pub enum Removed {
-    Done(usize),
+// Why nothing is removed: the output is shorter than the payload, or the payload is over its limit.
+#[derive(Clone, Copy, Debug, PartialEq, Eq)]
+pub enum RemovalError {
     Full,
     TooLong,
 }
@@ -176,93 +175,84 @@ fn fill_last(out: &mut [u8], p: Packer) -> usize
     full * 8 + k as usize
 }
 
-// Escape bits are removed from raw bytes into out.
-pub fn remove_escapes(raw: &[u8], out: &mut [u8]) -> Removed
+// Escape bits are removed from raw bytes into out; the answer is how many bits are left.
+pub fn remove_escapes(raw: &[u8], out: &mut [u8]) -> Result<usize, RemovalError>
     ensures answer { removed_says result ≡ removal raw.now (length out.old) }
     ensures output { out.new ≡ output_after (removal raw.now (length out.old)) raw.now out.old }
 {
     if LIMIT < raw.len() {
-        return Removed::TooLong;
+        return Err(RemovalError::TooLong);
     }
     if out.len() < raw.len() {
-        return Removed::Full;
+        return Err(RemovalError::Full);
     }
     let p = copy_bits(raw, out);
-    let count = fill_last(out, p);
-    Removed::Done(count)
+    Ok(fill_last(out, p))
 }
 
 // ── Exp-Golomb numbers ──
 
-// A number and the place after it; PayloadOut with how many bits were missing.
+// A number and the place after it.
 #[derive(Clone, Copy)]
-pub enum Golomb {
-    Number(u32, usize),
+pub struct Numbered<T> {
+    pub number: T,
+    pub next: usize,
+}
+
+// Why there is no number: it does not fit 32 bits, the payload is over its limit, or so many bits are missing.
+#[derive(Clone, Copy, Debug, PartialEq, Eq)]
+pub enum GolombError {
     Value,
     TooLong,
     PayloadOut(u32),
 }
 
-#[derive(Clone, Copy)]
-pub enum SignedGolomb {
-    Number(i32, usize),
-    Value,
-    TooLong,
-    PayloadOut(u32),
-}
+impl From<ReadError> for GolombError {
+    ghost from_gives = { λ error result. result ≡ read_refused error };
 
-// Zeros before a 1, with the place after that 1.
-#[derive(Clone, Copy)]
-enum Zeros {
-    Before(u32, usize),
-    TooMany,
-    Missing,
-}
-
-// The zeros from a place on.
-fn count_zeros(bytes: &[u8], count: usize, place: usize) -> Zeros
-    ensures { result ≡ zeros_on 0 place (drop place (payload bytes.now count)) }
-{
-    let mut z: u32 = 0;
-    let mut at = place;
-    while z < 32 {
-        let bits = Payload { bytes, count };
-        match bits.bit(at) {
-            Some(bit) => {
-                at += 1;
-                if bit != 0 {
-                    return Zeros::Before(z, at);
-                }
-                z += 1;
-            }
-            None => {
-                return Zeros::Missing;
-            }
+    fn from(error: ReadError) -> GolombError {
+        match error {
+            ReadError::Missing(missing) => GolombError::PayloadOut(missing),
+            ReadError::TooWide => GolombError::Value, // never: at most 31 bits are read
         }
     }
-    Zeros::TooMany
+}
+
+// How many zeros stand from a place on before a 1, and the place after that 1.
+fn count_zeros(bits: &Payload<'_>, place: usize) -> Result<Numbered<u32>, GolombError>
+    requires { length bits.now.bytes.now ≤ longest_payload }
+    ensures { result ≡ zeros_on 0 place (drop place (payload bits.now.bytes.now bits.now.count)) }
+{
+    let mut next = place;
+    for zeros in 0..32 {
+        let Some(bit) = bits.bit(next) else {
+            return Err(GolombError::PayloadOut(1));
+        };
+        next += 1;
+        if bit != 0 {
+            return Ok(Numbered {
+                number: zeros,
+                next,
+            });
+        }
+    }
+    Err(GolombError::Value)
 }
 
 // The unsigned number at a place of a payload.
-pub fn unsigned_golomb(bytes: &[u8], count: usize, place: usize) -> Golomb
-    ensures { golomb_says result ≡ golomb bytes.now count place }
+pub fn unsigned_golomb(bits: &Payload<'_>, place: usize) -> Result<Numbered<u32>, GolombError>
+    ensures { golomb_says result ≡ golomb bits.now.bytes.now bits.now.count place }
 {
-    if LIMIT < bytes.len() {
-        return Golomb::TooLong;
+    if LIMIT < bits.bytes.len() {
+        return Err(GolombError::TooLong);
     }
-    let bits = Payload { bytes, count };
-    match count_zeros(bytes, count, place) {
-        Zeros::Before(z, at) => match bits.read(at, z) {
-            Ok(b) => {
-                let one: u32 = 1;
-                Golomb::Number((one << z) - 1 + b, at + z as usize)
-            }
-            Err(ReadError::Missing(missing)) => Golomb::PayloadOut(missing),
-            Err(ReadError::TooWide) => Golomb::Value, // never: at most 31 zeros stand before the 1
-        },
-        Zeros::TooMany => Golomb::Value,
-        Zeros::Missing => Golomb::PayloadOut(1),
-    }
+    let zeros = count_zeros(bits, place)?;
+    let rest = bits.read(zeros.next, zeros.number)?;
+    let one: u32 = 1;
+    Ok(Numbered {
+        number: (one << zeros.number) - 1 + rest,
+        next: zeros.next + zeros.number as usize,
+    })
 }
 
 // The signed number that an unsigned one stands for.
@@ -278,13 +268,12 @@ fn stands_for(n: u32) -> i32
 }
 
 // The signed number at a place of a payload.
-pub fn signed_golomb(bytes: &[u8], count: usize, place: usize) -> SignedGolomb
-    ensures { signed_says result ≡ signed_golomb bytes.now count place }
+pub fn signed_golomb(bits: &Payload<'_>, place: usize) -> Result<Numbered<i32>, GolombError>
+    ensures { golomb_says result ≡ signed_golomb bits.now.bytes.now bits.now.count place }
 {
-    match unsigned_golomb(bytes, count, place) {
-        Golomb::Number(n, next) => SignedGolomb::Number(stands_for(n), next),
-        Golomb::Value => SignedGolomb::Value,
-        Golomb::TooLong => SignedGolomb::TooLong,
-        Golomb::PayloadOut(missing) => SignedGolomb::PayloadOut(missing),
-    }
+    let unsigned = unsigned_golomb(bits, place)?;
+    Ok(Numbered {
+        number: stands_for(unsigned.number),
+        next: unsigned.next,
+    })
 }

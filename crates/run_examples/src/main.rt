@@ -3,7 +3,7 @@
 #![tactic(auto)]
 
 use bodies::HeaderAnswer;
-use filing::FilingAnswer;
+use filing::{Refusal, Totals};
 use std::{fmt, io};
 
 // ── H ──
@@ -26,13 +26,13 @@ fn example_header(rt: &impl Print) -> io::Result<()> {
 
 // Filed, with the number of units, or refused.
 #[derive(Drop)]
-struct Told(FilingAnswer);
+struct Told(Result<Totals, Refusal>);
 
 impl fmt::Display for Told {
     fn fmt<W: fmt::Write>(&self, f: &mut fmt::Formatter<W>) -> fmt::Result {
         match self.0 {
-            FilingAnswer::Filed(totals) => write!(f, "0 {}", totals.units),
-            FilingAnswer::Refused(why) => {
+            Ok(totals) => write!(f, "0 {}", totals.units),
+            Err(why) => {
                 write!(f, "{} {} ", grammar::reason_number(why.reason), why.offset)?;
                 match statuses::reason_bit(why.reason) {
                     Some(bit) => write!(f, "{bit}"),

@@ -8,7 +8,7 @@ use grammar::{Reason, SliceRule, State};
 use layout::Fault;
 use std::{fmt, io};
 use text::Hex;
-use units::UnitAnswer;
+use units::NextUnit;
 
 // ── what is wrong ──
 
@@ -99,14 +99,14 @@ impl fmt::Display for Stood {
 
 // Where the unit ends, its row's length and the state after it; or why it is refused, after "none".
 #[derive(Drop)]
-struct Read(UnitAnswer);
+struct Read(Option<Result<NextUnit, Reason>>);
 
 impl fmt::Display for Read {
     fn fmt<W: fmt::Write>(&self, f: &mut fmt::Formatter<W>) -> fmt::Result {
         match self.0 {
-            UnitAnswer::Next(state, end, length) => write!(f, "{end} {length} {}", Stood(state)),
-            UnitAnswer::Refused(why) => write!(f, "none {}", Refused::from(why)),
-            UnitAnswer::NoUnit => write!(f, "none"),
+            Some(Ok(unit)) => write!(f, "{} {} {}", unit.end, unit.length, Stood(unit.state)),
+            Some(Err(why)) => write!(f, "none {}", Refused::from(why)),
+            None => write!(f, "none"),
         }
     }
 }

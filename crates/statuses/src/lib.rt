@@ -14,10 +14,9 @@ ghost use Rattle.rows.specs.Rows.{existing};
 ghost use Rattle.payload.specs.Escape.{removal, output_after};
 ghost use Rattle.statuses.specs.Answers.{carried_bit, counted, filed_answer, part_at, kind_number, kind_answer};
 
-use filing::{Checked, FilingAnswer};
 use grammar::Reason;
 use layout::Fault;
-use payload::Removed;
+use payload::RemovalError;
 use startcode::{Kind, UnitKind};
 
 // What a call answers: a status, the offset of a stream's refusal, how many units, numbers or bits were handed over, and the bit place
@@ -30,6 +29,13 @@ pub struct Answer {
     pub count: usize,
     pub bit: usize,
 }
+
+// Refusals that carry nothing.
+pub const FULL: u32 = 12;
+
+const TOO_LONG: u32 = 13;
+
+pub const NO_ROW: u32 = 16;
 
 // In place of a bit that is not there.
 const NO_BIT: usize = usize::MAX;
@@ -119,8 +125,8 @@ pub fn file(stream: &[u8], rows: &mut [u32]) -> Answer
     ensures words { rows.new ≡ words_after (filing_into stream.now (length rows.old)) rows.old }
 {
     match filing::file(stream, rows) {
-        FilingAnswer::Filed(totals) => handed(totals.units),
-        FilingAnswer::Refused(why) => refused_stream(why),
+        Ok(totals) => handed(totals.units),
+        Err(why) => refused_stream(why),
     }
 }
 
@@ -129,8 +135,8 @@ pub fn check(stream: &[u8]) -> Answer
     ensures { result ≡ counted (said length (walk stream.now)) }
 {
     match filing::check(stream) {
-        Checked::Good(units) => handed(units),
-        Checked::Refused(why) => refused_stream(why),
+        Ok(units) => handed(units),
+        Err(why) => refused_stream(why),
     }
 }
 
@@ -156,9 +162,9 @@ pub fn remove_escapes(raw: &[u8], output: &mut [u8]) -> Answer
     ensures output { output.new ≡ output_after (removal raw.now (length output.old)) raw.now output.old }
 {
     match payload::remove_escapes(raw, output) {
-        Removed::Done(bits) => handed(bits),
-        Removed::Full => refusal(12),
-        Removed::TooLong => refusal(13),
+        Ok(bits) => handed(bits),
+        Err(RemovalError::Full) => refusal(FULL),
+        Err(RemovalError::TooLong) => refusal(TOO_LONG),
     }
 }
 

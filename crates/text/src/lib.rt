@@ -1,4 +1,5 @@
 // Texts put into lent bytes from a place on: what does not fit is cut. The answer is the place after the text.
+// Not write!: a formatter fails where its text does not fit, and these say which of its bytes stand.
 #![tactic(auto)]
 
 ghost use Rattle.std.specs.Prelude.{Some, ◌≡◌, [], ◌∷◌, ◌/◌, ◌%◌, ◌<◌};
@@ -6,6 +7,7 @@ ghost use Rattle.text.specs.Text.{Put, digit, decimal, signed, hex_digit, hex};
 
 use std::fmt;
 
+#[tactic(auto, using(crate::proofs::PutLaws::put_one, crate::proofs::PutLaws::put_past))]
 fn put_byte(out: &mut [u8], at: usize, b: u8) -> usize
     ensures { Put at (b ∷ []) out.old result out.new }
 {

@@ -22,7 +22,7 @@ use Rattle.units.specs.Inside.{extension_scope}
 
 -- ── trailing zeros ──
 
-trim_zero : (l : List ℕ) → trimmed (l ++ (0 ∷ [])) ≡ trimmed l
+pub trim_zero : (l : List ℕ) → trimmed (l ++ (0 ∷ [])) ≡ trimmed l
 trim_zero [] = refl
 trim_zero (x ∷ l) = ap (kept x) (trim_zero l)
 
@@ -30,23 +30,9 @@ kept_snoc : (y : ℕ) (l : List ℕ) (x : ℕ) → kept y (l ++ (x ∷ [])) ≡ 
 kept_snoc y [] x = refl
 kept_snoc y (z ∷ l) x = refl
 
-trim_not : (l : List ℕ) (x : ℕ) → (x ≡ 0 → ⊥) → trimmed (l ++ (x ∷ [])) ≡ l ++ (x ∷ [])
+pub trim_not : (l : List ℕ) (x : ℕ) → (x ≡ 0 → ⊥) → trimmed (l ++ (x ∷ [])) ≡ l ++ (x ∷ [])
 trim_not [] x h = simp (ne_eqb x 0 h)
 trim_not (y ∷ l) x h = ap (kept y) (trim_not l x h) ∙ kept_snoc y l x
-
--- the last of the first n bytes
-module _ (b : List ℕ) (n : ℕ) (h : 0 < n) (k : n ≤ length b) where
-  last_is : take n b ≡ take (n - 1) b ++ (get_or b (n - 1) 0 ∷ [])
-  last_is = let e : n ≡ suc (n - 1) = omega arith in ap (λ (x : ℕ). take x b) e ∙ take-suc b (n - 1) 0 (omega arith)
-
-  pub trim_more : get_or b (n - 1) 0 ≡ 0 → trimmed (take n b) ≡ trimmed (take (n - 1) b)
-  trim_more z = ap trimmed (last_is ∙ ap (λ (x : ℕ). take (n - 1) b ++ (x ∷ [])) z) ∙ trim_zero (take (n - 1) b)
-
-  pub trim_end : (get_or b (n - 1) 0 ≡ 0 → ⊥) → trimmed (take n b) ≡ take n b
-  trim_end z = ap trimmed last_is ∙ trim_not (take (n - 1) b) (get_or b (n - 1) 0) z ∙ sym last_is
-
-pub trim_all : (b : List ℕ) → trimmed b ≡ trimmed (take (length b) b)
-trim_all b = ap trimmed (sym (take-length b))
 
 -- ── a row's length ──
 
@@ -80,14 +66,3 @@ length_by p o u e = ap (λ (x : Outcome Kind). length (cond (whole_body x p u.bo
 pub length_same : (q : State) (k : Kind) (u : StreamUnit) → kind_of u.code ≡ done k →
     length (cond (whole_body (done k) (extension_scope q) u.body) u.body (trimmed u.body)) ≡ row_length (placed (scope_in q u) u)
 length_same q k u e = length_by (extension_scope q) (done k) u e ∙ scope_same q u
-
--- a kind that is neither user data nor an extension
-pub not_whole : (k : Kind) (p : Scope) (body : List ℕ) → same_kind k kind.UserData ≡ false → same_kind k kind.Extension ≡ false → whole_body (done k) p body ≡ false
-not_whole kind.Slice p body u x = refl
-not_whole kind.SequenceHeader p body u x = refl
-not_whole kind.SequenceEnd p body u x = refl
-not_whole kind.UserData p body u x = contrary true refl u
-not_whole kind.IPicture p body u x = refl
-not_whole kind.Extension p body u x = contrary true refl x
-not_whole kind.PBPicture p body u x = refl
-not_whole kind.EditCode p body u x = refl

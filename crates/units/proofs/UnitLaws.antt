@@ -1,5 +1,5 @@
 -- The laws of the unit at an offset: what it is, and what it leaves of the walk.
-use Rattle.std.proofs.Common.{Ok, Err}
+use Rattle.std.proofs.Common.{Result, Ok, Err, Option, Some, None}
 use Prim.Native.Nat.{ℕ, ◌≤◌, ◌<◌, ◌+◌, ◌-◌}
 use mathlib.Core.Path.{◌≡◌, refl, sym, ◌∙◌, ap, subst}
 use mathlib.Core.List.{List}
@@ -16,16 +16,16 @@ use Rattle.grammar.specs.Grammar.{StreamUnit, bytes}
 use Rattle.grammar.specs.Rows.{Placed, placed, row_length}
 use Rattle.grammar.specs.Reader.{Step, cut, step, scope_in, Walk, stop_at, continue, add_unit, walk_from}
 use Rattle.grammar.specs.declared.State.{State}
+use Rattle.grammar.specs.declared.Reason.{Reason}
 use Rattle.grammar.specs.declared.Reason.TheVariants as reason
 use Rattle.grammar.proofs.RowLaws.{length_le}
 use Rattle.grammar.proofs.WalkLaws.{left, prefix_fits, chunks_cut, chunks_overlap, chunks_some, unit_between, next_fits, chunks_unit, unit_ends, next_begins}
 use Rattle.units.specs.Reader.{next_of, unit_from, unit_of, unit_at}
-use Rattle.units.specs.declared.UnitAnswer.{UnitAnswer}
-use Rattle.units.specs.declared.UnitAnswer.TheVariants as answer
+use Rattle.units.specs.declared.NextUnit.{NextUnit}
 
 -- ── what the unit is ──
 
-pub unit_none : (s : List ℕ) (q : State) (at : ℕ) → begins (drop at s) ≡ false → answer.NoUnit ≡ unit_at s q at
+pub unit_none : (s : List ℕ) (q : State) (at : ℕ) → begins (drop at s) ≡ false → None ≡ unit_at s q at
 unfolding unit_at
 unit_none s q at f = rw f
 
@@ -33,20 +33,20 @@ chunk_unit : (s : List ℕ) (q : State) (at : ℕ) (chunks : List (List ℕ)) �
 unfolding unit_at
 chunk_unit s q at chunks b e = rw (b, e)
 
-pub unit_cut : (s : List ℕ) (q : State) (at : ℕ) → begins (drop at s) ≡ true → at + 3 ≡ length s → answer.Refused reason.Cut ≡ unit_at s q at
+pub unit_cut : (s : List ℕ) (q : State) (at : ℕ) → begins (drop at s) ≡ true → at + 3 ≡ length s → Some (Err reason.Cut) ≡ unit_at s q at
 unit_cut s q at b e = chunk_unit s q at _ b (chunks_cut s at b e)
 
-pub unit_overlap : (s : List ℕ) (q : State) (at : ℕ) → begins (drop at s) ≡ true → begins (drop (at + 3) s) ≡ true → answer.Refused reason.Overlap ≡ unit_at s q at
+pub unit_overlap : (s : List ℕ) (q : State) (at : ℕ) → begins (drop at s) ≡ true → begins (drop (at + 3) s) ≡ true → Some (Err reason.Overlap) ≡ unit_at s q at
 unit_overlap s q at b b' =
-    let why : Bool → UnitAnswer = λ t. answer.Refused (cond t reason.Cut reason.Overlap) in
+    let why : Bool → Option (Result NextUnit Reason) = λ t. Some (Err (cond t reason.Cut reason.Overlap)) in
     ap why (sym (chunks_some s (at + 3) b')) ∙ chunk_unit s q at _ b (chunks_overlap s at b b')
 
 module _ (s : List ℕ) (q : State) (at : ℕ) (b : begins (drop at s) ≡ true) (h : at + 3 < length s) (b' : begins (drop (at + 3) s) ≡ false) where
   abbrev the_unit : StreamUnit
   the_unit = unit_between s at (next_prefix s (at + 3))
 
-  pub unit_is : unit_from q the_unit (next_prefix s (at + 3)) ≡ unit_at s q at
-  unit_is = ap (unit_from q the_unit) (sym (unit_ends s at b h b')) ∙ chunk_unit s q at _ b (chunks_unit s at b h b')
+  pub unit_is : Some (unit_from q the_unit (next_prefix s (at + 3))) ≡ unit_at s q at
+  unit_is = ap (λ (n : ℕ). Some (unit_from q the_unit n)) (sym (unit_ends s at b h b')) ∙ chunk_unit s q at _ b (chunks_unit s at b h b')
 
 -- ── what it leaves of the walk ──
 
@@ -63,10 +63,10 @@ pub record Advanced (s : List ℕ) (q : State) (at : ℕ) (next : State) (end le
   pub small : length ≤ ListN.length s
   pub begins_next : end < ListN.length s → begins (drop end s) ≡ true
 
-abbrev pub Left : List ℕ → State → ℕ → UnitAnswer → Type 0
-Left s q at (answer.Next next end length) = Advanced s q at next end length
-Left s q at (answer.Refused why) = left s q at ≡ stop_at why at
-Left s q at answer.NoUnit = ⊥
+abbrev pub Left : List ℕ → State → ℕ → Option (Result NextUnit Reason) → Type 0
+Left s q at (Some (Ok u)) = Advanced s q at u.state u.end u.length
+Left s q at (Some (Err why)) = left s q at ≡ stop_at why at
+Left s q at None = ⊥
 
 left_of_lem : (s : List ℕ) (q : State) (at : ℕ) (chunks : List (List ℕ)) → (cut (drop at s)).chunks ≡ chunks → left s q at ≡ walk_from chunks q at
 unfolding left
@@ -95,7 +95,7 @@ module _ (s : List ℕ) (q : State) (at : ℕ) (b : begins (drop at s) ≡ true)
       left_of_lem s q at _ (chunks_unit s at b h b')
       ∙ ap (λ (n : ℕ). continue (step q here) at (λ q'. add_unit (placed (scope_in q here) here) (walk_from (cut (drop (next_prefix s (at + 3)) s)).chunks q' n))) (unit_ends s at b h b')
 
-  by_step : (t : Step) → step q here ≡ t → Left s q at (next_of t (next_prefix s (at + 3)) (row_length (placed (scope_in q here) here)))
+  by_step : (t : Step) → step q here ≡ t → Left s q at (Some (next_of t (next_prefix s (at + 3)) (row_length (placed (scope_in q here) here))))
   by_step (Ok q') e =
       let f = next_fits s at b h b' in
       let l = length_le (placed (scope_in q here) here) in

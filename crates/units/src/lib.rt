@@ -1,10 +1,10 @@
 // One unit of a stream, read in the state that the units before it lead to.
 #![tactic(auto)]
 
-ghost use Rattle.std.specs.Prelude.{◌≡◌, cond, ◌<◌, length};
+ghost use Rattle.std.specs.Prelude.{◌≡◌, [], ◌∷◌, cond, length};
 ghost use Rattle.answers.specs.Answers.{done};
 ghost use Rattle.grammar.specs.Rows.{placed, trimmed, whole_body, row_length};
-ghost use Rattle.grammar.specs.Reader.{choose, table};
+ghost use Rattle.grammar.specs.Reader.{choose, table, header_step, ending_step};
 ghost use Rattle.units.specs.Reader.{unit_from, unit_at};
 ghost use Rattle.units.specs.Inside.{extension_scope};
 
@@ -12,38 +12,33 @@ use bodies::Scope;
 use grammar::{Reason, SliceRule, State};
 use startcode::{Kind, UnitKind};
 
-// The state after a unit, where it ends and its row's length; or why it is refused; or that no unit begins here.
-#[derive(Clone, Copy)]
-pub enum UnitAnswer {
-    Next(State, usize, usize),
-    Refused(Reason),
-    NoUnit,
+// What follows a unit: the state after it, where it ends, and its row's length.
+#[derive(Clone, Copy, Debug, PartialEq, Eq)]
+pub struct NextUnit {
+    pub state: State,
+    pub end: usize,
+    pub length: usize,
 }
 
 // ── one unit, by the state that it is read in ──
 
-// Outside groups: at the start only B0 may stand, and after B1 only B7.
-fn outside_groups(ended: bool, kind: Kind, code: u8, body: &[u8]) -> Result<State, Reason>
-    ensures { result ≡ choose kind (table (cond ended State.Ended State.Start) (record { code = code; body = body.now })) }
+// At the start only B0 may stand.
+fn at_start(kind: Kind, body: &[u8]) -> Result<State, Reason>
+    ensures { result ≡ choose kind ((Kind.SequenceHeader, header_step body.now) ∷ []) }
 {
     match kind {
-        Kind::SequenceHeader => {
-            if ended {
-                return Err(Reason::OutOfPlace);
-            }
-            steps::header_step(body)
-        }
-        Kind::EditCode => {
-            if ended {
-                return steps::ending_step(body, State::Closed);
-            }
-            Err(Reason::OutOfPlace)
-        }
+        Kind::SequenceHeader => steps::header_step(body),
         _ => Err(Reason::OutOfPlace),
     }
 }
 
-fn in_head(rule: SliceRule, display: bool, kind: Kind, code: u8, body: &[u8]) -> Result<State, Reason>
+fn in_head(
+    rule: SliceRule,
+    display: bool,
+    kind: Kind,
+    code: u8,
+    body: &[u8],
+) -> Result<State, Reason>
     ensures { result ≡ choose kind (table (State.Head rule display) (record { code = code; body = body.now })) }
 {
     match kind {
@@ -65,7 +60,13 @@ fn in_picture(rule: SliceRule, kind: Kind, code: u8, body: &[u8]) -> Result<Stat
     }
 }
 
-fn after_slice(rule: SliceRule, least: u32, kind: Kind, code: u8, body: &[u8]) -> Result<State, Reason>
+fn after_slice(
+    rule: SliceRule,
+    least: u32,
+    kind: Kind,
+    code: u8,
+    body: &[u8],
+) -> Result<State, Reason>
     ensures { result ≡ choose kind (table (State.Slices rule least) (record { code = code; body = body.now })) }
 {
     match kind {
@@ -79,15 +80,25 @@ fn after_slice(rule: SliceRule, least: u32, kind: Kind, code: u8, body: &[u8]) -
     }
 }
 
+// After B1 only B7 may stand.
+fn after_end(kind: Kind, body: &[u8]) -> Result<State, Reason>
+    ensures { result ≡ choose kind ((Kind.EditCode, ending_step body.now State.Closed) ∷ []) }
+{
+    match kind {
+        Kind::EditCode => steps::ending_step(body, State::Closed),
+        _ => Err(Reason::OutOfPlace),
+    }
+}
+
 fn in_state(state: State, kind: Kind, code: u8, body: &[u8]) -> Result<State, Reason>
     ensures { result ≡ choose kind (table state (record { code = code; body = body.now })) }
 {
     match state {
-        State::Start => outside_groups(false, kind, code, body),
+        State::Start => at_start(kind, body),
         State::Head(rule, display) => in_head(rule, display, kind, code, body),
         State::Picture(rule) => in_picture(rule, kind, code, body),
         State::Slices(rule, least) => after_slice(rule, least, kind, code, body),
-        State::Ended => outside_groups(true, kind, code, body),
+        State::Ended => after_end(kind, body),
         State::Closed => Err(Reason::OutOfPlace),
     }
 }
@@ -100,11 +111,7 @@ fn scope_in(state: State) -> Scope
 {
     match state {
         State::Head(_, _) => Scope::Head,
-        State::Start => Scope::Picture,
-        State::Picture(_) => Scope::Picture,
-        State::Slices(_, _) => Scope::Picture,
-        State::Ended => Scope::Picture,
-        State::Closed => Scope::Picture,
+        _ => Scope::Picture,
     }
 }
 
@@ -123,12 +130,12 @@ fn is_whole(scope: Scope, kind: Kind, body: &[u8]) -> bool
 fn trimmed_length(body: &[u8]) -> usize
     ensures { result ≡ length (trimmed body.now) }
 {
-    let mut n = body.len();
-    while 0 < n {
-        if body[n - 1] != 0 {
-            return n;
+    let mut rest = body;
+    while let Some((last, front)) = rest.split_last() {
+        if *last != 0 {
+            return rest.len();
         }
-        n -= 1;
+        rest = front;
     }
     0
 }
@@ -156,37 +163,38 @@ pub fn row_length(scope: Scope, code: u8, body: &[u8]) -> usize
 // ── one unit of a stream ──
 
 // A unit with this code byte and body, which ends at an offset. Its kind is found once.
-fn unit_of(state: State, code: u8, body: &[u8], end: usize) -> UnitAnswer
+fn unit_of(state: State, code: u8, body: &[u8], end: usize) -> Result<NextUnit, Reason>
     ensures { result ≡ unit_from state (record { code = code; body = body.now }) end }
 {
     match startcode::kind_of(code) {
         UnitKind::Is(kind) => {
-            let scope = scope_in(state);
-            match in_state(state, kind, code, body) {
-                Ok(next) => UnitAnswer::Next(next, end, length_in(scope, kind, body)),
-                Err(why) => UnitAnswer::Refused(why),
-            }
+            let next = in_state(state, kind, code, body)?;
+            Ok(NextUnit {
+                state: next,
+                end,
+                length: length_in(scope_in(state), kind, body),
+            })
         }
-        UnitKind::Unknown => UnitAnswer::Refused(Reason::Unknown),
+        UnitKind::Unknown => Err(Reason::Unknown),
     }
 }
 
-// The unit at an offset, read in a state.
-pub fn unit_at(stream: &[u8], state: State, at: usize) -> UnitAnswer
+// The unit at an offset, read in a state; or why it is refused; or that no unit begins there.
+pub fn unit_at(stream: &[u8], state: State, at: usize) -> Option<Result<NextUnit, Reason>>
     ensures { result ≡ unit_at stream.now state at }
 {
     if !startcode::prefix_at(stream, at) {
-        return UnitAnswer::NoUnit;
+        return None;
     }
     let code_at = at + 3;
     if stream.len() == code_at {
-        return UnitAnswer::Refused(Reason::Cut);
+        return Some(Err(Reason::Cut));
     }
     if startcode::prefix_at(stream, code_at) {
-        return UnitAnswer::Refused(Reason::Overlap);
+        return Some(Err(Reason::Overlap));
     }
     let end = startcode::next_prefix(stream, code_at);
     let code = stream[code_at];
     let from = at + 4;
-    unit_of(state, code, &stream[from..end], end)
+    Some(unit_of(state, code, &stream[from..end], end))
 }

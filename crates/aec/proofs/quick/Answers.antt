@@ -14,10 +14,10 @@ pub overflow_add-result : goal.overflow_add-result
 overflow_add-result c =
     omega (arith, (state_ranges _ _ c.requires.1).place, payload_bound c.args.bytes.now c.args.count c.requires.0)
 
-pub returns-in-Done : goal.returns-in-Done
-returns-in-Done c =
+pub returns-in-Some : goal.returns-in-Some
+returns-in-Some c =
     let a = c.args in
     let y = c.requires.4 in
-    let told = sym c.renormalise.ensures ∙ c.in-Done.is in
+    let told = sym c.renormalise.ensures ∙ c.in-Some.is in
     bin_miss (payload a.bytes.now a.count) a.x a.p a.y _ c.requires.3
-    (quick_state a.bytes.now a.count a.x a.y c.in-Done.z (state_ranges _ _ c.requires.1).vt y.t y.low y.high (rw c.head_of-head.ensures at told))
+    (quick_state a.bytes.now a.count a.x a.y c.in-Some.z (state_ranges _ _ c.requires.1).vt y.t y.low y.high (rw c.head_of-head.ensures at told))

@@ -1,11 +1,12 @@
 -- What is left of the head has the same display extension.
+use Rattle.std.proofs.Common.{Option}
 use Prim.Native.Nat.{ℕ, ◌+◌, ◌≤◌, ◌<◌}
 use mathlib.Core.Path.{◌≡◌, sym, ◌∙◌, ap}
 use mathlib.Core.List.{List, []}
 use native.Mathlib.Omega.{arith}
+use Rattle.bodies.specs.declared.DisplayExtension.{DisplayExtension}
 use Rattle.groups.specs.Reader.{display_in}
 use Rattle.groups.specs.Inside.{display_by, units_from}
-use Rattle.groups.specs.declared.Display.{Display}
 use Rattle.groups.specs.declared.InHead.{InHead}
 use Rattle.groups.proofs.WalkLaws.{Walked, walked, units_end, units_over, show_end, show_next}
 use Rattle.groups.proofs.display_from.Goals as goal
@@ -27,7 +28,7 @@ module _ (u : After-in_group_head) where
   step : Walked u.args.stream.now u.loop-at.at u.next_prefix-end.result
   step = walked u.args.stream.now u.loop-at.at u.loop-at.invariant.here u.loop-at-test.true u.next_prefix-end.result u.next_prefix-end.ensures u.if-end-body_at.false
 
-  abbrev rest : Display
+  abbrev rest : Option DisplayExtension
   rest = display_in (units_from u.args.stream.now u.next_prefix-end.result)
 
   answered : {y : InHead} → y ≡ u.in_group_head.result → display_by y rest ≡ display_in (units_from u.args.stream.now u.args.from)

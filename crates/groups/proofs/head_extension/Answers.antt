@@ -1,17 +1,18 @@
 -- The layout's answer decides.
+use Rattle.std.proofs.Common.{Option}
 use mathlib.Core.Path.{◌≡◌, sym, ap, ◌∙◌}
 use Rattle.answers.specs.Answers.{Outcome}
 use Rattle.bodies.specs.Answers.{answer_of, Extension, extension_gives, extension_says}
 use Rattle.bodies.specs.Reader.{extension_of}
 use Rattle.bodies.specs.declared.ExtensionAnswer.{ExtensionAnswer}
 use Rattle.bodies.specs.declared.Scope.TheVariants.{Head}
+use Rattle.bodies.specs.declared.DisplayExtension.{DisplayExtension}
 use Rattle.groups.specs.Reader.{shown}
-use Rattle.groups.specs.declared.Display.{Display}
 use Rattle.groups.proofs.head_extension.Goals as goal
 use Rattle.groups.proofs.head_extension.Goals.{After-extension}
 
 -- what an answer says of the units after it
-said : (c : After-extension) {y : ExtensionAnswer} → c.extension.result ≡ y → (rest : Display) → shown (extension_says y) rest ≡ shown (extension_of Head c.args.body.now) rest
+said : (c : After-extension) {y : ExtensionAnswer} → c.extension.result ≡ y → (rest : Option DisplayExtension) → shown (extension_says y) rest ≡ shown (extension_of Head c.args.body.now) rest
 said c e rest = ap (λ (y : ExtensionAnswer). shown (extension_says y) rest) (sym e) ∙ ap (λ (o : Outcome Extension). shown o rest) c.extension.ensures
 
 pub returns-in-Display : goal.returns-in-Display

@@ -3,7 +3,6 @@ use Prim.Native.Nat.{ℕ, ◌+◌}
 use mathlib.Core.Path.{◌≡◌, refl, sym, ◌∙◌}
 use mathlib.Core.List.{List, ◌∷◌}
 use native.Mathlib.Omega.{arith}
-use borrow.Author.Rules.{rules}
 use borrow.Author.Tests.{eq-eqb}
 use lib.ListN.{drop}
 use Rattle.bits.specs.Bits.{payload}
@@ -12,40 +11,41 @@ use Rattle.payload.proofs.GolombLaws.{zeros_more, zeros_one, zeros_out}
 use Rattle.payload.proofs.count_zeros.Goals as goal
 use Rattle.payload.proofs.count_zeros.Goals.{In-Some}
 
-pub loop-z-init : goal.loop-z-init
-loop-z-init c = (search rules, refl)
+pub loop-zeros-init : goal.loop-zeros-init
+loop-zeros-init c = refl
 
 -- a turn reads the bit that heads what is left
 module _ (c : In-Some) where
   abbrev bits : List ℕ
-  bits = let a = c.args in payload a.bytes.now a.count
+  bits = payload c.args.bits.now.bytes.now c.args.bits.now.count
 
-  heads : drop c.loop-z.at bits ≡ c.in-Some.bit ∷ drop (c.loop-z.at + 1) bits
-  heads = bit_read bits c.loop-z.at _ (sym c.bit.ensures ∙ c.in-Some.is)
+  heads : drop c.loop-zeros.next bits ≡ c.in-Some.bit ∷ drop (c.loop-zeros.next + 1) bits
+  heads = bit_read bits c.loop-zeros.next _ (sym c.bit.ensures ∙ c.in-Some.is)
 
-pub overflow_add-at : goal.overflow_add-at
-overflow_add-at c =
-    let a = c.args in
-    omega (arith, bit_inside (bits c) c.loop-z.at _ _ (heads c), length_payload a.bytes.now a.count)
+pub overflow_add-next : goal.overflow_add-next
+overflow_add-next c =
+    let p = c.args.bits.now in
+    omega (arith, bit_inside (bits c) c.loop-zeros.next _ _ (heads c), length_payload p.bytes.now p.count, c.requires)
 
 pub returns-then-bit-ne0 : goal.returns-then-bit-ne0
 returns-then-bit-ne0 c =
-    let l = c.loop-z in
-    sym (l.invariant.1 ∙ zeros_one l.z l.at (bits (goal.at.returns-then-bit-ne0 c).In-Some) (omega arith) _ _ (heads (goal.at.returns-then-bit-ne0 c).In-Some) c.if-bit-ne0.true)
+    let l = c.loop-zeros in
+    let r = (goal.at.returns-then-bit-ne0 c).In-Some in
+    sym (l.invariant ∙ zeros_one l.zeros l.next (bits r) (omega arith) _ _ (heads r) c.if-bit-ne0.true)
 
-pub loop-z-preserved : goal.loop-z-preserved
-loop-z-preserved c =
-    let l = c.loop-z in
-    (search rules, l.invariant.1 ∙ zeros_more l.z l.at (bits (goal.at.loop-z-preserved c).In-Some) (omega arith) _ (heads (goal.at.loop-z-preserved c).In-Some) c.if-bit-ne0.false)
+pub loop-zeros-preserved : goal.loop-zeros-preserved
+loop-zeros-preserved c =
+    let l = c.loop-zeros in
+    let r = (goal.at.loop-zeros-preserved c).In-Some in
+    l.invariant ∙ zeros_more l.zeros l.next (bits r) (omega arith) _ (heads r) c.if-bit-ne0.false
 
-pub returns-in-None : goal.returns-in-None
-returns-in-None c =
-    let l = c.loop-z in
-    let a = c.args in
-    let s = payload a.bytes.now a.count in
-    sym (l.invariant.1 ∙ zeros_out l.z l.at s (omega arith) (bit_missing s l.at (sym c.bit.ensures ∙ c.in-None.is)))
+pub returns-in_default : goal.returns-in_default
+returns-in_default c =
+    let l = c.loop-zeros in
+    let s = payload c.args.bits.now.bytes.now c.args.bits.now.count in
+    sym (l.invariant ∙ zeros_out l.zeros l.next s (omega arith) (bit_missing s l.next (sym c.bit.ensures ∙ c.in_default.is)))
 
 pub returns : goal.returns
 returns c =
-    let l = c.loop-z in
-    sym (l.invariant.1 ∙ simp (eq-eqb l.z 32 (omega arith)))
+    let l = c.loop-zeros in
+    sym (l.invariant ∙ simp (eq-eqb l.zeros 32 (omega arith)))

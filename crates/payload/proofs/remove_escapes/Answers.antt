@@ -23,8 +23,8 @@ returns-then-out-raw c =
     let e = removal_full a.raw.now a.out.now c.if-raw-gt-LIMIT.false c.if-out-raw.true in
     record { answer = sym e; output = settled a.raw.now a.out.now _ _ e refl }
 
-pub fill_last-count-requires : goal.fill_last-count-requires
-fill_last-count-requires c =
+pub fill_last-requires : goal.fill_last-requires
+fill_last-requires c =
     let g = c.copy_bits-p.ensures in
     (g.partial, omega (arith, g.within, g.same), omega (arith, g.within))
 
@@ -32,7 +32,7 @@ pub returns : goal.returns
 returns c =
     let a = c.args in
     let g = c.copy_bits-p.ensures in
-    let f = c.fill_last-count.ensures in
+    let f = c.fill_last.ensures in
     let e = removal_done a.raw.now a.out.now c.if-raw-gt-LIMIT.false c.if-out-raw.false ∙ ap done (sym (f.count ∙ g.count)) in
     record {
       answer = sym e;

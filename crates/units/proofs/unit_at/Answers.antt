@@ -1,4 +1,5 @@
 -- The tests in order, and then the unit up to the next prefix.
+use Rattle.std.proofs.Common.{Some}
 use Prim.Native.Nat.{ℕ, ◌+◌, ◌≤◌, ◌<◌}
 use mathlib.Core.Path.{◌≡◌, sym, ap, ◌∙◌}
 use mathlib.Core.Logic.{◌≢◌}
@@ -65,4 +66,4 @@ pub slice_bounds-unit_of-end : goal.slice_bounds-unit_of-end
 slice_bounds-unit_of-end c = let f = fits c c.if-stream-code_at.false in omega (arith, f.0, f.1)
 
 pub returns : goal.returns
-returns c = let a = c.args in c.unit_of.ensures ∙ ap (λ (n : ℕ). unit_from a.state (unit_between a.stream.now a.at n) n) c.next_prefix-end.ensures ∙ unit_is a.stream.now a.state a.at (here (goal.at.returns c).Else-not-prefix_at) (inside (goal.at.returns c).After-prefix_at-2 c.if-stream-code_at.false) (alone (goal.at.returns c).Else-prefix_at)
+returns c = let a = c.args in ap Some (c.unit_of.ensures ∙ ap (λ (n : ℕ). unit_from a.state (unit_between a.stream.now a.at n) n) c.next_prefix-end.ensures) ∙ unit_is a.stream.now a.state a.at (here (goal.at.returns c).Else-not-prefix_at) (inside (goal.at.returns c).After-prefix_at-2 c.if-stream-code_at.false) (alone (goal.at.returns c).Else-prefix_at)

@@ -1,4 +1,6 @@
 -- The kind is found once: it chooses the step and the row's length.
+use Rattle.std.proofs.Common.{Ok}
+use Rattle.std.proofs.lemmas.Result.{err_from_is_err_and}
 use Prim.Native.Nat.{ℕ}
 use mathlib.Core.Path.{◌≡◌, sym, ap, ◌∙◌}
 use mathlib.Core.Bool.{cond}
@@ -11,7 +13,6 @@ use Rattle.grammar.specs.Grammar.{StreamUnit}
 use Rattle.grammar.specs.Rows.{placed, trimmed, whole_body, row_length}
 use Rattle.grammar.specs.Reader.{Step, choose, table, by_kind, step, scope_in}
 use Rattle.units.specs.Reader.{next_of, unit_from}
-use Rattle.units.specs.declared.UnitAnswer.TheVariants as answer
 use Rattle.units.proofs.LengthLaws.{length_same}
 use Rattle.units.proofs.unit_of.Goals as goal
 use Rattle.units.proofs.unit_of.Goals.{After-in_state}
@@ -33,11 +34,18 @@ module _ (t : After-in_state) where
       ap (λ (y : Step). next_of y t.args.end the_length)
       (sym e ∙ t.in_state.ensures ∙ ap (λ (o : Outcome Kind). by_kind o (λ k. choose k (table t.args.state u))) (sym is))
 
-pub returns-in-Ok : goal.returns-in-Ok
-returns-in-Ok c = let b = (u (goal.at.returns-in-Ok c).After-in_state).body in ap (λ (n : ℕ). answer.Next c.in-Ok.next c.args.end n) (c.length_in.ensures ∙ ap (λ (p : Scope). length (cond (whole_body (done c.in-Is.kind) p b) b (trimmed b))) c.scope_in-scope.ensures ∙ length_same c.args.state c.in-Is.kind (u (goal.at.returns-in-Ok c).After-in_state) (is (goal.at.returns-in-Ok c).After-in_state)) ∙ answered (goal.at.returns-in-Ok c).After-in_state c.in-Ok.is
+pub returns-in_ok-next-in-Is : goal.returns-in_ok-next-in-Is
+returns-in_ok-next-in-Is c =
+    let t = (goal.at.returns-in_ok-next-in-Is c).After-in_state in
+    let b = (u t).body in
+    ap (λ (n : ℕ). Ok (record { state = c.in_ok-next-in-Is.next; end = c.args.end; length = n }))
+    (c.length_in.ensures ∙ ap (λ (p : Scope). length (cond (whole_body (done c.in-Is.kind) p b) b (trimmed b))) c.scope_in.ensures ∙ length_same c.args.state c.in-Is.kind (u t) (is t))
+    ∙ answered t c.in_ok-next-in-Is.was
 
-pub returns-in-Err : goal.returns-in-Err
-returns-in-Err c = answered (goal.at.returns-in-Err c).After-in_state c.in-Err.is
+pub returns-in_err-next-in-Is : goal.returns-in_err-next-in-Is
+returns-in_err-next-in-Is c =
+    let p = err_from_is_err_and c.from_residual.result c.from_residual.ensures.1 in
+    rw (p.1, p.2) (answered (goal.at.returns-in_err-next-in-Is c).After-in_state c.in_err-next-in-Is.was)
 
 pub returns-in-Unknown : goal.returns-in-Unknown
 unfolding step
