@@ -443,7 +443,7 @@ impl Contexts for Context {
     ghost update = { update_of };
 
     fn is_good(self) -> bool {
-        contexts::good_context(self)
+        self.is_good()
     }
 
     fn prediction(self) -> Prediction {
@@ -454,7 +454,7 @@ impl Contexts for Context {
     }
 
     fn updated(self, bin: u32) -> Context {
-        contexts::updated(self, bin)
+        self.updated(bin)
     }
 }
 
@@ -492,8 +492,8 @@ impl Contexts for Pair {
 
     fn updated(self, bin: u32) -> Pair {
         Pair {
-            first: contexts::updated(self.first, bin),
-            second: contexts::updated(self.second, bin),
+            first: self.first.updated(bin),
+            second: self.second.updated(bin),
         }
     }
 }

@@ -12,7 +12,6 @@ ghost use Rattle.marked.specs.Payloads.{no_number, no_signed_number, number_answ
 use aec::{StartError, State, Stepped};
 use bits::Payload;
 use contexts::Context;
-use entries::Entry;
 use payload::GolombError;
 use rates::Rate;
 
@@ -277,13 +276,10 @@ pub fn stuffing(bytes: &[u8], bits: usize, state: State) -> PlainBin
 
 // ── the tables of context steps ──
 
-fn entry_number(entry: Entry) -> u32
+fn entry_number(entry: Option<u32>) -> u32
     ensures { result ≡ entry_number entry }
 {
-    match entry {
-        Entry::Lg(lg) => lg,
-        Entry::NotGiven => NO_LG,
-    }
+    entry.unwrap_or(NO_LG)
 }
 
 // The entry of the table for w, which is 3, 4 or 5, at an index.

@@ -4,8 +4,8 @@ use mathlib.Core.Path.{ap}
 use native.Mathlib.Omega.{arith}
 use Rattle.rates.specs.Rates.{next_lg}
 use Rattle.rates.proofs.RateLaws.{width_within, loss}
-use Rattle.rates.proofs.next_lg.Goals as goal
-use Rattle.rates.proofs.next_lg.Goals.{After-width-w}
+use Rattle.rates.proofs.Rate.next_lg.Goals as goal
+use Rattle.rates.proofs.Rate.next_lg.Goals.{After-width-w}
 
 -- w, and what lg loses by it
 module _ (c : After-width-w) where
@@ -16,7 +16,7 @@ module _ (c : After-width-w) where
   lg = c.args.lg
 
   within : (3 ≤ w) × (w ≤ 5)
-  within = let h = width_within c.args.rate in let e = c.width-w.ensures in (omega arith, omega arith)
+  within = let h = width_within c.args.self in let e = c.width-w.ensures in (omega arith, omega arith)
 
   lost : (lg / 2 ^ w ≤ lg / 8) × (lg / 2 ^ (w + 2) ≤ lg / 32)
   lost = loss w lg within.0
