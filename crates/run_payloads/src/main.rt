@@ -114,14 +114,15 @@ fn example_golomb(rt: &impl Print, byte: u8, count: usize) -> io::Result<()> {
 
 // The bins, and the state and the context after them.
 fn example_bins(rt: &impl Print, example: u32, bytes: &[u8], count: u32) -> io::Result<()> {
+    let bits = Payload { bytes, count: 24 };
     print!(rt; "example {example}")?;
-    let mut state = match aec::start(bytes, 24) {
+    let mut state = match aec::start(bits) {
         Ok(state) => state,
         Err(why) => return println!(rt; " {}", Refused::from(why)),
     };
     let mut context = Context::fresh();
     for _ in 0..count {
-        let done = match aec::decode(bytes, 24, state, context) {
+        let done = match aec::decode(bits, state, context) {
             Ok(done) => done,
             Err(why) => return println!(rt; " {}", Refused::from(why)),
         };
