@@ -9,7 +9,7 @@ ghost use Rattle.grammar.specs.Reader.{is_kind};
 ghost use Rattle.groups.specs.Groups.{group_says};
 ghost use Rattle.groups.specs.Reader.{shown, in_head, display_in, group_of, group_in, group_at};
 ghost use Rattle.groups.specs.declared.GroupError.TheVariants.{Refused};
-ghost use Rattle.groups.specs.Inside.{Tells, units_from, Here};
+ghost use Rattle.groups.specs.Inside.{Tells, units_from, Here, Stands};
 
 use bodies::{DisplayExtension, ExtensionAnswer, HeaderAnswer, Scope, SequenceHeader};
 use filing::Refusal;
@@ -35,6 +35,14 @@ impl From<Refusal> for GroupError {
     fn from(why: Refusal) -> GroupError {
         GroupError::Refused(why)
     }
+}
+
+// A unit as it stands in a stream, and where the next one begins.
+#[derive(Clone, Copy)]
+struct UnitHere<'a> {
+    code: u8,
+    body: &'a [u8],
+    next: usize,
 }
 
 // What a unit after a sequence header is: the display extension, another unit of the group's head, or past it.
@@ -99,27 +107,30 @@ fn in_group_head(code: u8, body: &[u8]) -> InHead
 
 // ── from an offset on ──
 
+// The unit at an offset of a stream, and where the next one begins; or none where the stream ends.
+fn unit_here(stream: &[u8], at: usize) -> Option<UnitHere<'_>>
+    requires { Here stream.now at }
+    ensures { Stands stream.now at result }
+{
+    let code = *stream.get(at + 3)?;
+    let next = startcode::next_prefix(stream, at + 3);
+    let body = stream.get(at + 4..next)?;
+    Some(UnitHere { code, body, next })
+}
+
 // The display extension of the group's head that goes on at an offset.
 fn display_from(stream: &[u8], from: usize) -> Option<DisplayExtension>
     requires { Here stream.now from }
     ensures { result ≡ display_in (units_from stream.now from) }
 {
     let mut at = from;
-    while at + 3 < stream.len() {
-        let code_at = at + 3;
-        let end = startcode::next_prefix(stream, code_at);
-        let body_at = at + 4;
-        if end < body_at {
-            return None;
-        }
-        let code = stream[code_at];
-        let body = &stream[body_at..end];
-        match in_group_head(code, body) {
+    while let Some(unit) = unit_here(stream, at) {
+        match in_group_head(unit.code, unit.body) {
             InHead::Display(d) => {
                 return Some(d);
             }
             InHead::Other => {
-                at = end;
+                at = unit.next;
             }
             InHead::Past => {
                 return None;
@@ -150,20 +161,14 @@ fn group_number(stream: &[u8], g: usize) -> Result<Group, GroupError>
 {
     let mut skip = g;
     let mut at: usize = 0;
-    while at + 3 < stream.len() {
-        let code_at = at + 3;
-        let end = startcode::next_prefix(stream, code_at);
-        let body_at = at + 4;
-        if end < body_at {
-            return Err(GroupError::NoRow);
-        }
-        if begins_group(stream[code_at]) {
+    while let Some(unit) = unit_here(stream, at) {
+        if begins_group(unit.code) {
             if skip == 0 {
-                return group_here(stream, &stream[body_at..end], end);
+                return group_here(stream, unit.body, unit.next);
             }
             skip -= 1;
         }
-        at = end;
+        at = unit.next;
     }
     Err(GroupError::NoRow)
 }
