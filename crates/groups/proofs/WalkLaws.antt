@@ -1,5 +1,5 @@
 -- The walk by index: the unit at an offset, and those after it.
-use Rattle.std.proofs.Common.{Option, None}
+use Rattle.std.proofs.Common.{None}
 use Prim.Native.Nat.{ℕ, zero, suc, ◌≤◌, ◌<◌, ◌+◌, ◌-◌}
 use mathlib.Core.Path.{◌≡◌, refl, sym, ◌∙◌, ap}
 use mathlib.Core.List.{List, [], ◌∷◌}
@@ -9,18 +9,15 @@ use lib.ListN.{length, drop}
 use lib.Seq.{drop-length}
 use borrow.Author.Tests.{ltb-true, ltb-false}
 use native.Mathlib.Omega.{arith}
-use Rattle.answers.specs.Answers.{done, refused, NO_ROW}
-use Rattle.bits.proofs.TestLaws.{by_test, contrary}
+use Rattle.answers.specs.Answers.{refused, NO_ROW}
+use Rattle.bits.proofs.TestLaws.{by_test}
 use Rattle.startcode.specs.Kinds.{kind_of}
 use Rattle.startcode.specs.Prefix.{begins, next_prefix}
-use Rattle.startcode.specs.declared.Kind.{Kind}
-use Rattle.startcode.specs.declared.Kind.TheVariants as kind
 use Rattle.startcode.proofs.PrefixLaws.{search_start, search_hit}
 use Rattle.bodies.specs.Reader.{header_of}
 use Rattle.grammar.specs.Grammar.{StreamUnit}
-use Rattle.grammar.specs.Reader.{cut, same_kind}
+use Rattle.grammar.specs.Reader.{cut}
 use Rattle.grammar.proofs.WalkLaws.{prefix_fits, chunks_cut, chunks_overlap, unit_between, next_fits, chunks_unit, next_begins}
-use Rattle.bodies.specs.declared.DisplayExtension.{DisplayExtension}
 use Rattle.groups.specs.Reader.{in_head, display_in, group_of, begins_group, group_in}
 use Rattle.groups.specs.Inside.{units_in, units_from, Here}
 
@@ -100,17 +97,6 @@ pub show_next : (s : List ℕ) (from at next : ℕ) (u : StreamUnit) → Showing
     in_head (kind_of u.code) u.body (display_in (units_from s next)) ≡ display_in (units_from s from)
 unfolding display_in
 show_next s from at next u h e = sym (h.same ∙ ap display_in e)
-
--- a unit of another kind than user data and extensions ends the head
-pub ends_head : (k : Kind) (body : List ℕ) (rest : Option DisplayExtension) → same_kind k kind.UserData ≡ false → same_kind k kind.Extension ≡ false → None ≡ in_head (done k) body rest
-ends_head kind.Slice body rest u x = refl
-ends_head kind.SequenceHeader body rest u x = refl
-ends_head kind.SequenceEnd body rest u x = refl
-ends_head kind.UserData body rest u x = contrary true refl u
-ends_head kind.IPicture body rest u x = refl
-ends_head kind.Extension body rest u x = contrary true refl x
-ends_head kind.PBPicture body rest u x = refl
-ends_head kind.EditCode body rest u x = refl
 
 -- ── groups ──
 

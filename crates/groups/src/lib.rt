@@ -55,23 +55,11 @@ enum InHead {
 
 // ── one unit ──
 
-fn is_header(kind: Kind) -> bool
-    ensures { result ≡ is_kind Kind.SequenceHeader (done kind) }
-{
-    match kind {
-        Kind::SequenceHeader => true,
-        _ => false,
-    }
-}
-
 // Whether a unit with this code begins a group.
 fn begins_group(code: u8) -> bool
     ensures { result ≡ is_kind Kind.SequenceHeader (kind_of code) }
 {
-    match startcode::kind_of(code) {
-        UnitKind::Is(kind) => is_header(kind),
-        UnitKind::Unknown => false,
-    }
+    matches!(startcode::kind_of(code), UnitKind::Is(Kind::SequenceHeader))
 }
 
 fn head_extension(body: &[u8]) -> InHead
@@ -85,23 +73,14 @@ fn head_extension(body: &[u8]) -> InHead
     }
 }
 
-fn head_unit(kind: Kind, body: &[u8]) -> InHead
-    ensures { Tells result (in_head (done kind) body.now) }
-{
-    match kind {
-        Kind::UserData => InHead::Other,
-        Kind::Extension => head_extension(body),
-        _ => InHead::Past,
-    }
-}
-
 // What a unit of a group's head says, by its code.
 fn in_group_head(code: u8, body: &[u8]) -> InHead
     ensures { Tells result (in_head (kind_of code) body.now) }
 {
     match startcode::kind_of(code) {
-        UnitKind::Is(kind) => head_unit(kind, body),
-        UnitKind::Unknown => InHead::Past,
+        UnitKind::Is(Kind::UserData) => InHead::Other,
+        UnitKind::Is(Kind::Extension) => head_extension(body),
+        _ => InHead::Past,
     }
 }
 

@@ -1,5 +1,4 @@
 -- The first unit of those from here on, if there is one.
-use Prim.Native.Nat.{◌+◌}
 use mathlib.Core.Path.{◌≡◌, sym, ap, ◌∙◌}
 use mathlib.Core.List.{◌∷◌}
 use borrow.Author.Tests.{ltb-true, ltb-false}
