@@ -105,8 +105,8 @@ def value(text, function, pattern=""):
 def items(text, function, pattern, without):
     """The words that a definition lists in order, each after what it belongs to: HEADER_LEVEL. Lists in it are expanded; those in
     `without` are not given."""
-    wanted = "NotGiven" if function in without else pattern
-    right = next(right for left, right in clauses(text, function) if wanted in left)
+    wanted = r"\bNone\b|\.NotGiven\b" if function in without else re.escape(pattern)
+    right = next(right for left, right in clauses(text, function) if re.search(wanted, left))
     prefix = capitals(function.replace("_numbers", ""))
     for item in re.split(r"∷|\+\+", right):
         inner = re.match(r"\s*(\w+_numbers) ", item)

@@ -1,29 +1,51 @@
 -- The laws of one bin, by contexts of which only their test, prediction and update are known, and by two.
 use Rattle.std.proofs.Common.{Result, Ok, Err}
-use Prim.Native.Nat.{ℕ, ◌/◌}
-use mathlib.Core.Path.{◌≡◌, refl, ap, ◌∙◌}
+use Prim.Native.Nat.{ℕ}
+use mathlib.Core.Path.{◌≡◌, refl, sym, ap, ◌∙◌}
 use mathlib.Core.List.{List}
 use mathlib.Core.Bool.{Bool, ◌&&◌}
 use Rattle.answers.specs.Answers.{Carried, Outcome, done, refused, map_done, and_then}
-use Rattle.answers.proofs.OutcomeLaws.{stops, goes_on, stops_next}
+use Rattle.answers.proofs.OutcomeLaws.{not_refused, then_done, stops, goes_on, stops_next}
 use Rattle.bits.specs.Bits.{payload}
 use Rattle.contexts.specs.Contexts.{good_context, update_of}
 use Rattle.contexts.specs.declared.Context.{Context}
-use Rattle.aec.specs.Bins.{refused_first, bin_of, split_of, step_of, pair_of, decode_pair_of}
+use Rattle.aec.specs.Bins.{refused_first, step_of, pair_of, decode_pair_of}
 use Rattle.aec.specs.Says.{says, of_bin, decoded_pair_says}
-use Rattle.aec.specs.Inside.{bin_by, good_pair, pair_prediction, update_pair}
+use Rattle.aec.specs.Inside.{guarded_of, bin_by, good_pair, pair_prediction, update_pair}
 use Rattle.aec.specs.declared.Decoded.{Decoded}
 use Rattle.aec.specs.declared.Pair.{Pair}
-use Rattle.aec.specs.declared.Prediction.{Prediction}
+use Rattle.aec.specs.Bins.{Guess}
 use Rattle.aec.specs.declared.Refusal.{Refusal}
 use Rattle.aec.specs.declared.State.{State}
-use Rattle.aec.proofs.StepLaws.{step_is}
 
--- a bin of a copy of the state, by the contexts' prediction
-pub by_copy : (bits : List ℕ) (x y : State) (g h : Prediction) → y ≡ x → g ≡ h → bin_of bits y g.p (split_of y (g.lg / 4)) ≡ step_of bits x h
-by_copy bits x y g h e f = step_is bits y g _ refl ∙ (λ i. step_of bits (e i) (f i))
+-- ── what was not refused ──
 
-module _ {C : Type 0} (good : C → Bool) (predicts : C → Prediction) (update : C → ℕ → C) (bytes : List ℕ) (count : ℕ) (x : State) (c : C) where
+unrefused : {A : Type 0} {n : ℕ} {carried : List Carried} (o : Outcome (Unit {0})) (value : A) → refused n carried ≡ and_then o (λ _. done value) → refused n carried ≡ o
+unrefused (done u) value e = not_refused (sym e)
+unrefused (refused n carried) value e = ap (λ o. and_then o (λ _. done tt)) e
+
+module _ (bytes : List ℕ) (count : ℕ) (x : State) (contexts : Bool) where
+  pub guard_stops : {n : ℕ} {carried : List Carried} → refused n carried ≡ guarded_of bytes count x contexts → refused n carried ≡ refused_first bytes count x contexts
+  guard_stops e = unrefused (refused_first bytes count x contexts) (payload bytes count, x) e
+
+  -- the bits and the state are those that were asked with
+  pub record Guards (bits : List ℕ) (y : State) : Type 0 where
+    pub fine : done tt ≡ refused_first bytes count x contexts
+    pub bits_same : bits ≡ payload bytes count
+    pub state_same : y ≡ x
+
+  pub guards : (bits : List ℕ) (y : State) → done (bits, y) ≡ guarded_of bytes count x contexts → Guards bits y
+  guards bits y e =
+      let c = then_done (refused_first bytes count x contexts) _ (bits, y) (sym e) in
+      let is : ◌≡◌ {A = List ℕ × State} (payload bytes count, x) (bits, y) = cc c.to in
+      record { fine = sym c.from; bits_same = sym (ap (λ p. p.0) is); state_same = sym (ap (λ p. p.1) is) }
+
+-- ── one bin ──
+
+pub step_same : {l m : List ℕ} {x y : State} {g h : Guess} → m ≡ l → y ≡ x → g ≡ h → step_of m y g ≡ step_of l x h
+step_same a b c = λ i. step_of (a i) (b i) (c i)
+
+module _ {C : Type 0} (good : C → Bool) (predicts : C → Guess) (update : C → ℕ → C) (bytes : List ℕ) (count : ℕ) (x : State) (c : C) where
   abbrev whole : Outcome (ℕ × State × C)
   whole = bin_by good predicts update bytes count x c
 

@@ -18,13 +18,13 @@ use Rattle.aec.specs.Claims.{Runs, runs_done, runs_out}
 use Rattle.aec.specs.declared.Refusal.{Refusal}
 use Rattle.aec.specs.declared.State.{State}
 use Rattle.aec.specs.declared.Shift.{Shift}
-use Rattle.aec.specs.declared.Split.{Split}
-use Rattle.aec.specs.declared.Prediction.{Prediction}
+use Rattle.aec.specs.Bins.{Parts}
+use Rattle.aec.specs.Bins.{Guess}
 use Rattle.answers.proofs.OutcomeLaws.{not_done, then_done}
 use Rattle.bits.proofs.TestLaws.{chosen}
+use Rattle.aec.proofs.PairLaws.{Predicts}
 use Rattle.aec.proofs.RangeLaws.{StateRanges, payload_bound}
 use Rattle.aec.proofs.ShiftLaws.{normalised, widened}
-use Rattle.aec.specs.Inside.{Predicts}
 use Rattle.aec.proofs.StepLaws.{limit_held, nine_bits, split_ranges, not_missed, remainder_within, bin_hit, bin_missed}
 
 -- ── good leads to good ──
@@ -42,7 +42,7 @@ module _ (bytes : List ℕ) (count : ℕ) (short : length bytes ≤ longest_payl
       subst (λ y. (StateRanges (length l) y) × (place ≤ y.place)) is
       (record { rs = omega arith; vs = omega arith; rt = h; vt = omega arith; place = n.2 }, n.1)
 
-  unpredicted_good : (x : State) (y : Split) (z : State) → StateRanges (length (payload bytes count)) x → 1 ≤ y.range → y.range < 512
+  unpredicted_good : (x : State) (y : Parts) (z : State) → StateRanges (length (payload bytes count)) x → 1 ≤ y.range → y.range < 512
       → unpredicted_of (payload bytes count) x y ≡ done z → (StateRanges (length (payload bytes count)) z) × (x.place ≤ z.place)
   unfolding unpredicted_of
   unpredicted_good x y z r low high e =
@@ -56,7 +56,7 @@ module _ (bytes : List ℕ) (count : ℕ) (short : length bytes ≤ longest_payl
       (s.0, omega arith)
 
   -- a step from a state within its ranges leads to one, and its bin is 0 or 1
-  pub step_good : (x : State) (g : Prediction) (r : ℕ × State) → StateRanges (length (payload bytes count)) x → Predicts g → step_of (payload bytes count) x g ≡ done r
+  pub step_good : (x : State) (g : Guess) (r : ℕ × State) → StateRanges (length (payload bytes count)) x → Predicts g → step_of (payload bytes count) x g ≡ done r
       → (StateRanges (length (payload bytes count)) r.1) × (r.0 ≤ 1) × (x.place ≤ r.1.place)
   unfolding step_of
   step_good x g r h p e =
@@ -111,12 +111,12 @@ settle_refused l rt vt place r e = out (runs_settle l rt vt place) e
     out runs_done q = not_done q
     out runs_out q = refl
 
-runs_unpredicted : (l : List ℕ) (x : State) (y : Split) → Runs (unpredicted_of l x y)
+runs_unpredicted : (l : List ℕ) (x : State) (y : Parts) → Runs (unpredicted_of l x y)
 unfolding unpredicted_of remainder_of
 runs_unpredicted l x y =
     runs_then _ (chosen Runs (eqb y.s x.vs) _ _ (λ t. runs_done) (λ f. runs_then _ (runs_double (drop x.place l) x.vt x.place) (λ v. runs_done)))
     (λ v. runs_then _ (runs_shifts _ _ (drop v.1 l) _) (λ z. runs_settle l (z.beside % 256) z.value z.place))
 
-pub runs_step : (l : List ℕ) (x : State) (g : Prediction) → Runs (step_of l x g)
+pub runs_step : (l : List ℕ) (x : State) (g : Guess) → Runs (step_of l x g)
 unfolding step_of
 runs_step l x g = chosen Runs (misses_of x (split_of x (g.lg / 4))) _ _ (λ t. runs_then _ (runs_unpredicted l x (split_of x (g.lg / 4))) (λ z. runs_done)) (λ f. runs_done)

@@ -9,9 +9,15 @@ use Rattle.bits.proofs.TestLaws.{chosen, and_true}
 use Rattle.contexts.specs.declared.Context.{Context}
 use Rattle.contexts.specs.Contexts.{good_context}
 use Rattle.contexts.proofs.ContextLaws.{ContextRanges, context_ranges}
-use Rattle.aec.specs.Bins.{pair_of}
-use Rattle.aec.specs.Inside.{Predicts, own_prediction, good_pair, pair_prediction}
+use Rattle.aec.specs.Bins.{Guess, pair_of}
+use Rattle.aec.specs.Inside.{own_prediction, good_pair, pair_prediction}
 use Rattle.aec.specs.declared.Pair.{Pair}
+
+-- the ranges of a prediction
+pub record Predicts (g : Guess) : Type 0 where
+  pub bin : g.p ≤ 1
+  pub low : 4 ≤ g.lg
+  pub high : g.lg ≤ 1023
 
 pub pair_same : (a b : Context) → a.mps ≡ b.mps → record { p = a.mps; lg = (a.lg + b.lg) / 2 } ≡ pair_of a b
 unfolding pair_of

@@ -24,7 +24,7 @@ use Rattle.renorm.proofs.ShiftedLaws.{left_near, done_holds, word_of}
 use Rattle.aec.specs.Bins.{shifts, normalise_of, widen_of, settle_of, remainder_of, unpredicted_of}
 use Rattle.aec.specs.Inside.{head_of}
 use Rattle.aec.specs.declared.State.{State}
-use Rattle.aec.specs.declared.Split.{Split}
+use Rattle.aec.specs.Bins.{Parts}
 use Rattle.aec.specs.declared.Shift.{Shift}
 use Rattle.aec.proofs.ShiftLaws.{shifts_enough, shifts_more, double_bit}
 use Rattle.aec.proofs.StepLaws.{remainder_even, remainder_past}
@@ -86,7 +86,7 @@ normalises bits place m v n a h d =
 
 -- ── what valueT becomes, with the bits that follow it ──
 
-module _ (bits : List ℕ) (x : State) (y : Split) (v width : ℕ) (fits : y.t ≤ 255) (small : v < 2 ^ width) (some : 1 ≤ width) (a : Ahead bits x.place width v) where
+module _ (bits : List ℕ) (x : State) (y : Parts) (v width : ℕ) (fits : y.t ≤ 255) (small : v < 2 ^ width) (some : 1 ≤ width) (a : Ahead bits x.place width v) where
   -- the head and the bits as one number, and how many of them are left
   abbrev borrows : Bool
   borrows = not (eqb y.s x.vs)
@@ -142,7 +142,7 @@ settles bits rt place m v n a h d =
     goes (λ (q : Shift). done (record { rs = 0; rt = rt; vs = q.beside; vt = q.value % 256; place = q.place })) (sym (normalises bits place m v n a h d))
 
 -- from what valueT becomes on
-after_remainder : (bits : List ℕ) (x : State) (y : Split) (place m v k n : ℕ) → done (v / 2 ^ m, place) ≡ remainder_of bits x y → Ahead bits place m v
+after_remainder : (bits : List ℕ) (x : State) (y : Parts) (place m v k n : ℕ) → done (v / 2 ^ m, place) ≡ remainder_of bits x y → Ahead bits place m v
     → Doubles y.range k → Needs v (m - k) n → k ≤ m → n ≤ m - k
     → done (record { rs = 0; rt = y.range * 2 ^ k % 256; vs = n; vt = v / 2 ^ (m - k - n) % 256; place = place + k + n }) ≡ unpredicted_of bits x y
 unfolding unpredicted_of
@@ -152,7 +152,7 @@ after_remainder bits x y place m v k n r a d e f g =
     ∙ goes_on (λ q. widen_of bits q.0 y.range q.1) (λ q z. settle_of bits (z.beside % 256) z.value z.place) r _ (sym (widens bits place m v y.range k a f d))
 
 -- by the number that holds the bits, of which so many are left
-by_number : (bits : List ℕ) (x : State) (y : Split) (width left number k n : ℕ)
+by_number : (bits : List ℕ) (x : State) (y : Parts) (width left number k n : ℕ)
     → done (number / 2 ^ left, x.place + (width - left)) ≡ remainder_of bits x y → Ahead bits (x.place + (width - left)) left number
     → Doubles y.range k → Needs number (left - k) n → k ≤ left → n ≤ left - k → left ≤ width
     → done (record { rs = 0; rt = y.range * 2 ^ k % 256; vs = n; vt = number / 2 ^ (left - k - n) % 256; place = x.place + (width - (left - k - n)) }) ≡ unpredicted_of bits x y
@@ -161,7 +161,7 @@ by_number bits x y width left number k n r a d e f g h =
     rw p (after_remainder bits x y (x.place + (width - left)) left number k n r a d e f g)
 
 -- the number fits 64 bits
-number_small : (x : State) (y : Split) (left v : ℕ) → x.vt ≤ 255 → left ≤ 32 → v < 4294967296 → head_of x y * 2 ^ left + v < 18446744073709551616
+number_small : (x : State) (y : Parts) (left v : ℕ) → x.vt ≤ 255 → left ≤ 32 → v < 4294967296 → head_of x y * 2 ^ left + v < 18446744073709551616
 number_small x y left v h i j =
     let head : head_of x y < 1024 = chosen (λ (n : ℕ). n < 1024) (eqb y.s x.vs) _ _ (λ _. omega arith) (λ _. omega arith) in
     let m = mul-le-mul_right {m = head_of x y} {n = 1024} (2 ^ left) (omega arith) in
@@ -169,7 +169,7 @@ number_small x y left v h i j =
     omega arith
 
 -- by the bits that were read
-by_word : (bits : List ℕ) (x : State) (y : Split) (z : Registers) (v width : ℕ) → x.vt ≤ 255 → y.t ≤ 255 → 1 ≤ y.range → y.range < 512
+by_word : (bits : List ℕ) (x : State) (y : Parts) (z : Registers) (v width : ℕ) → x.vt ≤ 255 → y.t ≤ 255 → 1 ≤ y.range → y.range < 512
     → 25 ≤ width → width ≤ 32 → v < 2 ^ width → Ahead bits x.place width v
     → (let left = left_of width (not (eqb y.s x.vs)) in shifted_of (head_of x y * 2 ^ left + v) left width y.range ≡ Some z)
     → done (record { rs = 0; rt = z.rt; vs = z.vs; vt = z.vt; place = x.place + z.taken }) ≡ unpredicted_of bits x y
@@ -185,7 +185,7 @@ by_word bits x y z v width small fits some few least most fit a e =
     (by_number bits x y width left (head_of x y * 2 ^ left + v) (doublings_of y.range) (needed_of (head_of x y * 2 ^ left + v) (left - doublings_of y.range)) r b d (needs_bits _ _ u) (omega arith) enough within)
 
 -- what renormalisation answers is that state
-pub quick_state : (s : List ℕ) (count : ℕ) (x : State) (y : Split) (z : Registers) → x.vt ≤ 255 → y.t ≤ 255 → 1 ≤ y.range → y.range < 512
+pub quick_state : (s : List ℕ) (count : ℕ) (x : State) (y : Parts) (z : Registers) → x.vt ≤ 255 → y.t ≤ 255 → 1 ≤ y.range → y.range < 512
     → renormalise_of (payload s count) x.place (head_of x y) (not (eqb y.s x.vs)) y.range ≡ Some z
     → done (record { rs = 0; rt = z.rt; vs = z.vs; vt = z.vt; place = x.place + z.taken }) ≡ unpredicted_of (payload s count) x y
 quick_state s count x y z small fits some few e =

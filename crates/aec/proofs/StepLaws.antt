@@ -17,11 +17,10 @@ use Rattle.bits.proofs.BitLaws.{Binary, length_in}
 use Rattle.bits.proofs.Main.{read_exactly}
 use Rattle.aec.specs.Bins.{good_state, within_limit, refused_first, double_of, split_of, misses_of, remainder_of, unpredicted_of, bin_of, step_of}
 use Rattle.aec.specs.declared.State.{State}
-use Rattle.aec.specs.declared.Split.{Split}
-use Rattle.aec.specs.declared.Prediction.{Prediction}
+use Rattle.aec.specs.Bins.{Parts}
+use Rattle.aec.specs.Bins.{Guess}
 use Rattle.aec.specs.declared.Refusal.{Refusal}
 use Rattle.aec.specs.Says.{refusal_says}
-use Rattle.aec.specs.Inside.{SplitRanges}
 use Rattle.answers.proofs.OutcomeLaws.{stops, goes, then_done}
 use Rattle.bits.proofs.TestLaws.{chosen}
 use Rattle.aec.proofs.ShiftLaws.{taken}
@@ -75,6 +74,12 @@ nine_bits bytes count v e =
 
 -- ── s, t and R ──
 
+-- the ranges of t and R
+pub record SplitRanges (y : Parts) : Type 0 where
+  pub t : y.t ≤ 255
+  pub low : 1 ≤ y.range
+  pub high : y.range < 512
+
 pub split_fits : (x : State) (q : ℕ) → q ≤ x.rt → record { s = x.rs; t = x.rt - q; range = q } ≡ split_of x q
 unfolding split_of
 split_fits x q h = simp (le-leb _ _ h)
@@ -92,7 +97,7 @@ split_ranges x q h i j =
 
 -- ── whether the bin was predicted ──
 
-module _ (x : State) (y : Split) where
+module _ (x : State) (y : Parts) where
   pub misses_apart : (y.s ≡ x.vs → ⊥) → ltb x.vs y.s ≡ misses_of x y
   unfolding misses_of
   misses_apart h = simp (ne_eqb _ _ h, or-false)
@@ -115,7 +120,7 @@ module _ (x : State) (y : Split) where
 
 -- ── what valueT becomes ──
 
-module _ (l : List ℕ) (x : State) (y : Split) where
+module _ (l : List ℕ) (x : State) (y : Parts) where
   pub remainder_even : y.s ≡ x.vs → done (x.vt - y.t, x.place) ≡ remainder_of l x y
   unfolding remainder_of
   remainder_even h = simp (eq-eqb _ _ h)
@@ -144,7 +149,7 @@ module _ (l : List ℕ) (x : State) (y : Split) where
 
 -- ── one bin ──
 
-module _ (l : List ℕ) (x : State) (p : ℕ) (y : Split) where
+module _ (l : List ℕ) (x : State) (p : ℕ) (y : Parts) where
   pub bin_hit : misses_of x y ≡ false → done (p, record { rs = y.s; rt = y.t; vs = x.vs; vt = x.vt; place = x.place }) ≡ bin_of l x p y
   bin_hit h = simp h
 
@@ -158,6 +163,6 @@ module _ (l : List ℕ) (x : State) (p : ℕ) (y : Split) where
   bin_stops r h e = stops (λ next. done (1 - p, next)) e ∙ bin_missed h
 
 -- a bin of the range that the prediction splits
-pub step_is : (l : List ℕ) (x : State) (g : Prediction) (y : Split) → y ≡ split_of x (g.lg / 4) → bin_of l x g.p y ≡ step_of l x g
+pub step_is : (l : List ℕ) (x : State) (g : Guess) (y : Parts) → y ≡ split_of x (g.lg / 4) → bin_of l x g.p y ≡ step_of l x g
 unfolding step_of
 step_is l x g y is = ap (bin_of l x g.p) is

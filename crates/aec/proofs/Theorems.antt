@@ -24,7 +24,7 @@ use Rattle.aec.specs.Says.{refusal_says, started_says, of_step, of_bin, of_pair,
 use Rattle.aec.specs.Claims.{Leads, Runs, runs_done, runs_out, Refuses, LacksStart, of_nine, only_zeros, few_after, SameBits}
 use Rattle.aec.specs.declared.State.{State}
 use Rattle.contexts.specs.declared.Context.{Context}
-use Rattle.aec.specs.declared.Prediction.{Prediction}
+use Rattle.aec.specs.Bins.{Guess}
 use Rattle.aec.specs.declared.Shift.{Shift}
 use Rattle.aec.specs.declared.Refusal.TheVariants.{TooLong}
 use Rattle.aec.specs.declared.StartError.{StartError}
@@ -33,8 +33,7 @@ use Rattle.aec.proofs.AnswerLaws.{answer, answer_refused, says_apart}
 use Rattle.answers.proofs.OutcomeLaws.{not_refused, other_number, carried_same, out_same, undone, goes, then_done}
 use Rattle.contexts.proofs.ContextLaws.{context_ranges, updated_good}
 use Rattle.aec.proofs.RangeLaws.{state_ranges, ranges_state}
-use Rattle.aec.specs.Inside.{Predicts}
-use Rattle.aec.proofs.PairLaws.{pair_predicts}
+use Rattle.aec.proofs.PairLaws.{Predicts, pair_predicts}
 use Rattle.aec.proofs.StepLaws.{limit_passed, limit_kept, first_long, first_bad, first_fine, first_held}
 use Rattle.aec.proofs.StartLaws.{lacks_one, lacks_after, ends_after}
 use Rattle.aec.proofs.GoodLaws.{step_good, start_ranges, runs_then, runs_step}
@@ -72,7 +71,7 @@ start_good bytes count x e = sym (ranges_state _ x (start_ranges bytes count x e
 
 module _ (bytes : List ℕ) (count : ℕ) (x : State) where
   -- a step that followed the first tests
-  step_leads : (contexts : Bool) (g : Prediction) (r : ℕ × State) → refused_first bytes count x contexts ≡ done tt → Predicts g
+  step_leads : (contexts : Bool) (g : Guess) (r : ℕ × State) → refused_first bytes count x contexts ≡ done tt → Predicts g
       → step_of (payload bytes count) x g ≡ done r → Leads bytes count x r.0 r.1
   step_leads contexts g r e p s =
       let h = first_held bytes count x contexts e in

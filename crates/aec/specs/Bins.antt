@@ -8,8 +8,6 @@ use Rattle.contexts.specs.Contexts.{good_context, update_of}
 use Rattle.contexts.specs.declared.Context.{Context}
 use Rattle.aec.specs.declared.State.{State}
 use Rattle.aec.specs.declared.Shift.{Shift}
-use Rattle.aec.specs.declared.Split.{Split}
-use Rattle.aec.specs.declared.Prediction.{Prediction}
 
 -- ── "Ranges" ──
 
@@ -65,18 +63,29 @@ start_of bytes count =
 
 -- ── "One bin" ──
 
+-- s, t and R of a bin
+pub record Parts : Type 0 where
+  pub s : ℕ
+  pub t : ℕ
+  pub range : ℕ
+
+-- the predicted bin p, and lg
+pub record Guess : Type 0 where
+  pub p : ℕ
+  pub lg : ℕ
+
 -- s and t, "if rT >= q" and else; R is q, "or rT + q in the second case"
-unfoldable pub split_of : State → ℕ → Split
+unfoldable pub split_of : State → ℕ → Parts
 split_of x q =
     cond (leb q x.rt) (record { s = x.rs; t = x.rt - q; range = q })
     (record { s = x.rs + 1; t = 256 + x.rt - q; range = x.rt + q })
 
 -- "s > valueS, or s = valueS and valueT >= t": the bin is 1 - p
-unfoldable pub misses_of : State → Split → Bool
+unfoldable pub misses_of : State → Parts → Bool
 misses_of x y = ltb x.vs y.s || (eqb y.s x.vs && leb y.t x.vt)
 
 -- "valueT - t when s = valueS, else 256 + 2 × valueT + next bit - t", and the place of the next bit
-unfoldable pub remainder_of : List ℕ → State → Split → Outcome (ℕ × ℕ)
+unfoldable pub remainder_of : List ℕ → State → Parts → Outcome (ℕ × ℕ)
 remainder_of bits x y =
     cond (eqb y.s x.vs) (done (x.vt - y.t, x.place))
     (and_then (double_of (drop x.place bits) x.vt x.place) (λ v. done (256 + v.0 - y.t, v.1)))
@@ -86,25 +95,25 @@ abbrev pub widen_of : List ℕ → ℕ → ℕ → ℕ → Outcome Shift
 widen_of bits vt range place = shifts (λ z. leb 256 z.beside) (λ r. r * 2) (drop place bits) (record { value = vt; beside = range; place = place })
 
 -- the state after the bin 1 - p: "rT = R mod 256", and valueT normalised as at the start
-unfoldable pub unpredicted_of : List ℕ → State → Split → Outcome State
+unfoldable pub unpredicted_of : List ℕ → State → Parts → Outcome State
 unpredicted_of bits x y =
     and_then (remainder_of bits x y) (λ v.
     and_then (widen_of bits v.0 y.range v.1) (λ z. settle_of bits (z.beside % 256) z.value z.place))
 
 -- "otherwise the bin is p, rS = s, rT = t"
-abbrev pub bin_of : List ℕ → State → ℕ → Split → Outcome (ℕ × State)
+abbrev pub bin_of : List ℕ → State → ℕ → Parts → Outcome (ℕ × State)
 bin_of bits x p y =
     cond (misses_of x y) (and_then (unpredicted_of bits x y) (λ next. done (1 - p, next)))
     (done (p, record { rs = y.s; rt = y.t; vs = x.vs; vt = x.vt; place = x.place }))
 
 -- one bin, with predicted p and q = lg/4
-unfoldable pub step_of : List ℕ → State → Prediction → Outcome (ℕ × State)
+unfoldable pub step_of : List ℕ → State → Guess → Outcome (ℕ × State)
 step_of bits x g = bin_of bits x g.p (split_of x (g.lg / 4))
 
 -- ── "Two contexts", "Bypass", "Stuffing bin" ──
 
 -- p and lg of two contexts: "p is that of the smaller lg (the second on a tie)"
-unfoldable pub pair_of : Context → Context → Prediction
+unfoldable pub pair_of : Context → Context → Guess
 pair_of a b =
     cond (eqb a.mps b.mps) (record { p = a.mps; lg = (a.lg + b.lg) / 2 })
     (cond (ltb a.lg b.lg) (record { p = a.mps; lg = 1023 - (b.lg - a.lg) / 2 })

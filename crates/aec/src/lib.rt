@@ -1,22 +1,22 @@
 // The arithmetic bin decoder, by value.
 #![tactic(auto)]
 
-ghost use Rattle.std.specs.Prelude.{◌≡◌, ℕ, Bool, true, ◌*◌, ◌/◌, ◌≤◌, ◌<◌, length, drop};
-ghost use Rattle.answers.specs.Answers.{and_then};
+ghost use Rattle.std.specs.Prelude.{◌≡◌, ℕ, List, Bool, true, ◌*◌, ◌/◌, ◌≤◌, ◌<◌, length, drop};
 ghost use Rattle.answers.specs.Limits.{longest_payload, most_bits};
-ghost use Rattle.bits.specs.Bits.{payload};
 ghost use Rattle.contexts.specs.Contexts.{good_context, update_of};
-ghost use Rattle.aec.specs.Bins.{good_state, refused_first};
+ghost use Rattle.aec.specs.Bins.{Guess, good_state};
 ghost use Rattle.aec.specs.Bins.{double_of, normalise_of, widen_of, settle_of, start_of};
-ghost use Rattle.aec.specs.Bins.{split_of, misses_of, remainder_of, unpredicted_of, bin_of};
+ghost use Rattle.aec.specs.Bins.{split_of, misses_of, remainder_of, unpredicted_of, bin_of, step_of};
 ghost use Rattle.aec.specs.Bins.{pair_of, plain_of, bypass_of, stuffing_of, decode_of, decode_pair_of};
 ghost use Rattle.aec.specs.Says.{started_says, says, of_bin, stepped_says, decoded_says, decoded_pair_says};
-ghost use Rattle.aec.specs.declared.Prediction.{Prediction};
-ghost use Rattle.aec.specs.Inside.{itself, of_bit, SplitRanges, Quickly, head_of, Predicts};
+ghost use Rattle.aec.specs.Inside.{itself, held, guarded_of, of_bit, of_split, of_prediction, Quickly, head_of};
 ghost use Rattle.aec.specs.Inside.{bin_by, own_prediction, good_pair, pair_prediction, update_pair};
+
+mod ranges;
 
 use bits::{Payload, ReadError};
 use contexts::Context;
+use ranges::{Prediction, Split};
 
 // Document 01's rS, rT, valueS and valueT, and the place of the next bit.
 #[repr(C)]
@@ -81,19 +81,27 @@ struct Shift {
     place: usize,
 }
 
-// s, t and R of a bin.
+// A payload within the limit.
 #[derive(Clone, Copy)]
-struct Split {
-    s: u32,
-    t: u32,
-    range: u32,
+struct Limited<'a> {
+    bits: Payload<'a>,
+    ghost short: { length bits.bytes.now ≤ longest_payload },
 }
 
-// The predicted bin p, and lg.
+// Such a payload and a state within its ranges for it.
 #[derive(Clone, Copy)]
-struct Prediction {
-    p: u32,
-    lg: u32,
+struct Guarded<'a> {
+    limited: Limited<'a>,
+    state: State,
+    ghost good: { good_state (length (held limited.bits)) state ≡ true },
+}
+
+// These, and how the range is split where the bin is not the predicted one.
+#[derive(Clone, Copy)]
+struct Missed<'a> {
+    at: Guarded<'a>,
+    split: Split,
+    ghost misses: { misses_of at.state (of_split split) ≡ true },
 }
 
 // The most bytes of a payload.
@@ -123,115 +131,98 @@ fn good_state(x: State, end: usize) -> bool
     true
 }
 
-// The number of the payload's bits.
-fn bit_length(bytes: &[u8], count: usize) -> usize
-    requires { length bytes.now ≤ longest_payload }
-    ensures { result ≡ length (payload bytes.now count) }
-{
-    let all = bytes.len() * 8;
-    if count < all { count } else { all }
-}
+impl Limited<'_> {
+    // The number of the payload's bits.
+    fn bit_length(self) -> usize
+        ensures { result ≡ length (held self.entry.bits) }
+    {
+        let all = self.bits.bytes.len() * 8;
+        self.bits.count.min(all)
+    }
 
-// What is refused before a bit is read.
-fn guard(bytes: &[u8], count: usize, x: State, contexts: bool) -> Result<(), Refusal>
-    ensures { says itself result ≡ refused_first bytes.now count x contexts }
-{
-    if LIMIT < bytes.len() {
-        return Err(Refusal::TooLong);
+    // Twice a number and the next bit: every bit but the first nine is read here.
+    fn take_bit(self, value: u32, place: usize) -> Result<Doubled, Refusal>
+        requires { value < 2147483648 }
+        ensures { says of_bit result ≡ double_of (drop place (held self.entry.bits)) value place }
+    {
+        let twice = value * 2;
+        match self.bits.bit(place) {
+            Some(bit) => Ok(Doubled {
+                number: twice + bit,
+                next: place + 1,
+            }),
+            None => Err(Refusal::PayloadOut),
+        }
     }
-    let end = bit_length(bytes, count);
-    if !good_state(x, end) {
-        return Err(Refusal::BadState);
-    }
-    if !contexts {
-        return Err(Refusal::BadState);
-    }
-    Ok(())
-}
 
-// Twice a number and the next bit: every bit but the first nine is read here.
-fn take_bit(bytes: &[u8], count: usize, value: u32, place: usize) -> Result<Doubled, Refusal>
-    requires { value < 2147483648 }
-    ensures { says of_bit result ≡ double_of (drop place (payload bytes.now count)) value place }
-{
-    let twice = value * 2;
-    let bits = Payload { bytes, count };
-    match bits.bit(place) {
-        Some(bit) => Ok(Doubled {
-            number: twice + bit,
-            next: place + 1,
-        }),
-        None => Err(Refusal::PayloadOut),
-    }
-}
-
-// Doubles the value, with the next bits, while it is below 256, and counts how often.
-fn normalise(bytes: &[u8], count: usize, value: u32, place: usize) -> Result<Shift, Refusal>
-    requires { (length bytes.now ≤ longest_payload) × (place ≤ length (payload bytes.now count)) × (value < 1048576) }
-    ensures { says itself result ≡ normalise_of (payload bytes.now count) value place }
-{
-    let mut z = Shift {
-        value,
-        beside: 0,
-        place,
-    };
-    while z.value < 256 {
-        let more = take_bit(bytes, count, z.value, z.place)?;
-        z = Shift {
-            value: more.number,
-            beside: z.beside + 1,
-            place: more.next,
+    // Doubles the value, with the next bits, while it is below 256, and counts how often.
+    fn normalise(self, value: u32, place: usize) -> Result<Shift, Refusal>
+        requires { (place ≤ length (held self.bits)) × (value < 1048576) }
+        ensures { says itself result ≡ normalise_of (held self.entry.bits) value place }
+    {
+        let mut z = Shift {
+            value,
+            beside: 0,
+            place,
         };
+        while z.value < 256 {
+            let more = self.take_bit(z.value, z.place)?;
+            z = Shift {
+                value: more.number,
+                beside: z.beside + 1,
+                place: more.next,
+            };
+        }
+        Ok(z)
     }
-    Ok(z)
-}
 
-// Doubles the range while it is below 256, and the value with it, with the next bits.
-fn widen(bytes: &[u8], count: usize, value: u32, range: u32, place: usize) -> Result<Shift, Refusal>
-    requires { (length bytes.now ≤ longest_payload) × (place ≤ length (payload bytes.now count)) × (value < 768 * range) × (range < 512) }
-    ensures { says itself result ≡ widen_of (payload bytes.now count) value range place }
-{
-    let mut z = Shift {
-        value,
-        beside: range,
-        place,
-    };
-    while z.beside < 256 {
-        let more = take_bit(bytes, count, z.value, z.place)?;
-        z = Shift {
-            value: more.number,
-            beside: z.beside * 2,
-            place: more.next,
+    // Doubles the range while it is below 256, and the value with it, with the next bits.
+    fn widen(self, value: u32, range: u32, place: usize) -> Result<Shift, Refusal>
+        requires { (place ≤ length (held self.bits)) × (value < 768 * range) × (range < 512) }
+        ensures { says itself result ≡ widen_of (held self.entry.bits) value range place }
+    {
+        let mut z = Shift {
+            value,
+            beside: range,
+            place,
         };
+        while z.beside < 256 {
+            let more = self.take_bit(z.value, z.place)?;
+            z = Shift {
+                value: more.number,
+                beside: z.beside * 2,
+                place: more.next,
+            };
+        }
+        Ok(z)
     }
-    Ok(z)
-}
 
-// The state of a normalised value.
-fn settle(bytes: &[u8], count: usize, rt: u32, value: u32, place: usize) -> Result<State, Refusal>
-    requires { (length bytes.now ≤ longest_payload) × (place ≤ length (payload bytes.now count)) × (value < 1048576) }
-    ensures { says itself result ≡ settle_of (payload bytes.now count) rt value place }
-{
-    let z = normalise(bytes, count, value, place)?;
-    Ok(State {
-        rs: 0,
-        rt,
-        vs: z.beside,
-        vt: z.value % 256,
-        place: z.place,
-    })
+    // The state of a normalised value.
+    fn settle(self, rt: u32, value: u32, place: usize) -> Result<State, Refusal>
+        requires { (place ≤ length (held self.bits)) × (value < 1048576) }
+        ensures { says itself result ≡ settle_of (held self.entry.bits) rt value place }
+    {
+        let z = self.normalise(value, place)?;
+        Ok(State {
+            rs: 0,
+            rt,
+            vs: z.beside,
+            vt: z.value % 256,
+            place: z.place,
+        })
+    }
 }
 
 // The state that a payload begins with.
-pub fn start(bytes: &[u8], count: usize) -> Result<State, StartError>
-    ensures { started_says result ≡ start_of bytes.now count }
+pub fn start(bits: Payload<'_>) -> Result<State, StartError>
+    ensures { started_says result ≡ start_of bits.entry.bytes.now bits.entry.count }
 {
-    if LIMIT < bytes.len() {
+    if LIMIT < bits.bytes.len() {
         return Err(StartError::TooLong);
     }
-    let bits = Payload { bytes, count };
+    let limited = Limited { bits };
     match bits.read(0, 9) {
-        Ok(value) => match settle(bytes, count, 255, value, 9) {
+        Ok(value) => match limited.settle(255, value, 9) {
             Ok(state) => Ok(state),
             Err(_) => Err(StartError::PayloadOut(1)), // it wants bits one by one, and refuses for nothing else
         },
@@ -240,75 +231,160 @@ pub fn start(bytes: &[u8], count: usize) -> Result<State, StartError>
     }
 }
 
-// s, t and R, by whether rT reaches q.
-fn split_range(x: State, lg: u32) -> Split
-    requires { (x.rs ≤ most_bits) × (x.rt ≤ 255) × (4 ≤ lg) × (lg ≤ 1023) }
-    ensures { (result ≡ split_of x (lg / 4)) × SplitRanges result }
+// What is refused before a bit is read.
+fn guard(bits: Payload<'_>, state: State, contexts: bool) -> Result<Guarded<'_>, Refusal>
+    ensures { says {B = List ℕ × State} (λ at. (held at.limited.bits, at.state)) result ≡ guarded_of bits.entry.bytes.now bits.entry.count state contexts }
 {
-    let q = lg / 4;
-    if q <= x.rt {
-        return Split {
-            s: x.rs,
-            t: x.rt - q,
-            range: q,
-        };
+    if LIMIT < bits.bytes.len() {
+        return Err(Refusal::TooLong);
     }
-    Split {
-        s: x.rs + 1,
-        t: 256 + x.rt - q,
-        range: x.rt + q,
+    let limited = Limited { bits };
+    if !good_state(state, limited.bit_length()) {
+        return Err(Refusal::BadState);
+    }
+    if !contexts {
+        return Err(Refusal::BadState);
+    }
+    Ok(Guarded { limited, state })
+}
+
+impl<'a> Guarded<'a> {
+    // s, t and R, by whether rT reaches q.
+    fn split(self, g: Prediction) -> Split
+        ensures { of_split result ≡ split_of self.entry.state (g.lg / 4) }
+    {
+        let x = self.state;
+        let q = g.lg / 4;
+        if q <= x.rt {
+            return Split {
+                s: x.rs,
+                t: x.rt - q,
+                range: q,
+            };
+        }
+        Split {
+            s: x.rs + 1,
+            t: 256 + x.rt - q,
+            range: x.rt + q,
+        }
+    }
+
+    // Whether the bin is not the predicted one.
+    fn misses(self, y: Split) -> bool
+        ensures { result ≡ misses_of self.entry.state (of_split y) }
+    {
+        let x = self.state;
+        if y.s == x.vs {
+            return y.t <= x.vt;
+        }
+        x.vs < y.s
+    }
+
+    // The state after a bin that was predicted.
+    fn predicted(self, y: Split) -> State
+        ensures { result ≡ record { rs = y.s; rt = y.t; vs = self.entry.state.vs; vt = self.entry.state.vt; place = self.entry.state.place } }
+    {
+        State {
+            rs: y.s,
+            rt: y.t,
+            vs: self.state.vs,
+            vt: self.state.vt,
+            place: self.state.place,
+        }
+    }
+
+    // One bin where no more than four bytes are needed. Its callers split the range and call the slow way themselves, on a copy, so
+    // that the state can stay in registers: that leaves it small enough to be inlined into each.
+    fn step(self, g: Prediction, y: Split) -> Option<Stepped>
+        ensures { Quickly result (bin_of (held self.entry.limited.bits) self.entry.state g.p (of_split y)) }
+    {
+        if self.misses(y) {
+            return Missed { at: self, split: y }.quick(g);
+        }
+        Some(Stepped {
+            bin: g.p,
+            state: self.predicted(y),
+        })
+    }
+
+    // One bin by single bits. It splits the range itself: so it is too large to be inlined.
+    fn slow(self, g: Prediction) -> Result<Stepped, Refusal>
+        ensures { stepped_says result ≡ step_of (held self.entry.limited.bits) self.entry.state (of_prediction g) }
+    {
+        let y = self.split(g);
+        if self.misses(y) {
+            let state = Missed { at: self, split: y }.unpredicted()?;
+            return Ok(Stepped {
+                bin: 1 - g.p,
+                state,
+            });
+        }
+        Ok(Stepped {
+            bin: g.p,
+            state: self.predicted(y),
+        })
+    }
+
+    // The same in a place of its own.
+    fn copied(self) -> Guarded<'a>
+        ensures { (result.limited ≡ self.entry.limited) × (result.state ≡ self.entry.state) }
+    {
+        let x = self.state;
+        Guarded {
+            limited: self.limited,
+            state: State {
+                rs: x.rs,
+                rt: x.rt,
+                vs: x.vs,
+                vt: x.vt,
+                place: x.place,
+            },
+        }
     }
 }
 
-// Whether the bin is not the predicted one.
-fn misses(x: State, y: Split) -> bool
-    ensures { result ≡ misses_of x y }
-{
-    if y.s == x.vs {
-        return y.t <= x.vt;
+impl Missed<'_> {
+    // valueT less t. Where s is past valueS it borrows 256 and takes the next bit first.
+    fn remainder(self) -> Result<Doubled, Refusal>
+        ensures { says of_bit result ≡ remainder_of (held self.entry.at.limited.bits) self.entry.at.state (of_split self.entry.split) }
+    {
+        let x = self.at.state;
+        let y = self.split;
+        if y.s == x.vs {
+            return Ok(Doubled {
+                number: x.vt - y.t,
+                next: x.place,
+            });
+        }
+        let more = self.at.limited.take_bit(x.vt, x.place)?;
+        Ok(Doubled {
+            number: 256 + more.number - y.t,
+            next: more.next,
+        })
     }
-    x.vs < y.s
-}
 
-// valueT less t. Where s is past valueS it borrows 256 and takes the next bit first.
-fn remainder(bytes: &[u8], count: usize, x: State, y: Split) -> Result<Doubled, Refusal>
-    requires { (x.vt ≤ 255) × (y.t ≤ 255) × (misses_of x y ≡ true) }
-    ensures { says of_bit result ≡ remainder_of (payload bytes.now count) x y }
-{
-    if y.s == x.vs {
-        return Ok(Doubled {
-            number: x.vt - y.t,
-            next: x.place,
-        });
+    // valueT less t, as remainder has it, but without the bit that it borrows.
+    fn head(self) -> u16
+        ensures { result ≡ head_of self.entry.at.state (of_split self.entry.split) }
+    {
+        let x = self.at.state;
+        let y = self.split;
+        if y.s == x.vs {
+            return (x.vt - y.t) as u16;
+        }
+        (256 + x.vt * 2 - y.t) as u16
     }
-    let more = take_bit(bytes, count, x.vt, x.place)?;
-    Ok(Doubled {
-        number: 256 + more.number - y.t,
-        next: more.next,
-    })
-}
 
-// valueT less t, as remainder has it, but without the bit that it borrows.
-fn head_of(x: State, y: Split) -> u16
-    requires { (x.vt ≤ 255) × (y.t ≤ 255) × (misses_of x y ≡ true) }
-    ensures { result ≡ head_of x y }
-{
-    if y.s == x.vs {
-        return (x.vt - y.t) as u16;
-    }
-    (256 + x.vt * 2 - y.t) as u16
-}
-
-// A bin that was not predicted, by the bits of four bytes at once, where these hold all that it takes.
-fn quick(bytes: &[u8], count: usize, x: State, p: u32, y: Split) -> Option<Stepped>
-    requires { (length bytes.now ≤ longest_payload) × (good_state (length (payload bytes.now count)) x ≡ true) × (p ≤ 1) × (misses_of x y ≡ true) × SplitRanges y }
-    ensures { Quickly result (bin_of (payload bytes.now count) x p y) }
-{
-    let head = head_of(x, y);
-    let bits = Payload { bytes, count };
-    match renorm::renormalise(&bits, x.place, head, y.s != x.vs, y.range) {
-        Some(z) => Some(Stepped {
-            bin: 1 - p,
+    // By the bits of four bytes at once, where these hold all that it takes.
+    fn quick(self, g: Prediction) -> Option<Stepped>
+        ensures { Quickly result (bin_of (held self.entry.at.limited.bits) self.entry.at.state g.p (of_split self.entry.split)) }
+    {
+        let bits = self.at.limited.bits;
+        let x = self.at.state;
+        let y = self.split;
+        let z = renorm::renormalise(&bits, x.place, self.head(), y.s != x.vs, y.range)?;
+        Some(Stepped {
+            bin: 1 - g.p,
             state: State {
                 rs: 0,
                 rt: z.rt,
@@ -316,110 +392,52 @@ fn quick(bytes: &[u8], count: usize, x: State, p: u32, y: Split) -> Option<Stepp
                 vt: z.vt,
                 place: x.place + z.taken as usize,
             },
-        }),
-        None => None,
+        })
     }
-}
 
-// The state after a bin that was not predicted, by single bits.
-fn unpredicted(bytes: &[u8], count: usize, x: State, y: Split) -> Result<State, Refusal>
-    requires { (length bytes.now ≤ longest_payload) × (good_state (length (payload bytes.now count)) x ≡ true) × (misses_of x y ≡ true) × SplitRanges y }
-    ensures { says itself result ≡ unpredicted_of (payload bytes.now count) x y }
-{
-    let v = remainder(bytes, count, x, y)?;
-    let z = widen(bytes, count, v.number, y.range, v.next)?;
-    settle(bytes, count, z.beside % 256, z.value, z.place)
-}
-
-// The state after a bin that was predicted.
-fn predicted(x: State, y: Split) -> State
-    ensures { result ≡ record { rs = y.s; rt = y.t; vs = x.vs; vt = x.vt; place = x.place } }
-{
-    State {
-        rs: y.s,
-        rt: y.t,
-        vs: x.vs,
-        vt: x.vt,
-        place: x.place,
-    }
-}
-
-// One bin by single bits, of a state within its ranges. It splits the range itself: so it is too large to be inlined.
-fn slow(bytes: &[u8], count: usize, x: State, p: u32, lg: u32) -> Result<Stepped, Refusal>
-    requires { (length bytes.now ≤ longest_payload) × (good_state (length (payload bytes.now count)) x ≡ true) × (p ≤ 1) × (4 ≤ lg) × (lg ≤ 1023) }
-    ensures { stepped_says result ≡ bin_of (payload bytes.now count) x p (split_of x (lg / 4)) }
-{
-    let y = split_range(x, lg);
-    if misses(x, y) {
-        let state = unpredicted(bytes, count, x, y)?;
-        return Ok(Stepped { bin: 1 - p, state });
-    }
-    Ok(Stepped {
-        bin: p,
-        state: predicted(x, y),
-    })
-}
-
-// One bin, of a state within its ranges, where no more than four bytes are needed. Its callers split the range and call the slow way
-// themselves, on a copy of the state, which then can stay in registers: that leaves it small enough to be inlined into each.
-fn step(bytes: &[u8], count: usize, x: State, p: u32, y: Split) -> Option<Stepped>
-    requires { (length bytes.now ≤ longest_payload) × (good_state (length (payload bytes.now count)) x ≡ true) × (p ≤ 1) × SplitRanges y }
-    ensures { Quickly result (bin_of (payload bytes.now count) x p y) }
-{
-    if misses(x, y) {
-        return quick(bytes, count, x, p, y);
-    }
-    Some(Stepped {
-        bin: p,
-        state: predicted(x, y),
-    })
-}
-
-// The same state in a place of its own.
-fn copied(x: State) -> State
-    ensures { result ≡ x }
-{
-    State {
-        rs: x.rs,
-        rt: x.rt,
-        vs: x.vs,
-        vt: x.vt,
-        place: x.place,
+    // The state after the bin, by single bits.
+    fn unpredicted(self) -> Result<State, Refusal>
+        ensures { says itself result ≡ unpredicted_of (held self.entry.at.limited.bits) self.entry.at.state (of_split self.entry.split) }
+    {
+        let of = self.at.limited;
+        let v = self.remainder()?;
+        let z = of.widen(v.number, self.split.range, v.next)?;
+        of.settle(z.beside % 256, z.value, z.place)
     }
 }
 
 // A bin of no context, predicted 0.
-fn plain(bytes: &[u8], count: usize, x: State, lg: u32) -> Result<Stepped, Refusal>
+fn plain(bits: Payload<'_>, x: State, lg: u32) -> Result<Stepped, Refusal>
     requires { (4 ≤ lg) × (lg ≤ 1023) }
-    ensures { stepped_says result ≡ plain_of bytes.now count x lg }
+    ensures { stepped_says result ≡ plain_of bits.entry.bytes.now bits.entry.count x lg }
 {
-    guard(bytes, count, x, true)?;
-    match step(bytes, count, x, 0, split_range(x, lg)) {
+    let at = guard(bits, x, true)?;
+    let g = Prediction { p: 0, lg };
+    match at.step(g, at.split(g)) {
         Some(done) => Ok(done),
-        None => slow(bytes, count, copied(x), 0, lg),
+        None => at.copied().slow(g),
     }
 }
 
 // A bypass bin.
-pub fn bypass(bytes: &[u8], count: usize, x: State) -> Result<Stepped, Refusal>
-    ensures { stepped_says result ≡ bypass_of bytes.now count x }
+pub fn bypass(bits: Payload<'_>, x: State) -> Result<Stepped, Refusal>
+    ensures { stepped_says result ≡ bypass_of bits.entry.bytes.now bits.entry.count x }
 {
-    plain(bytes, count, x, 1023)
+    plain(bits, x, 1023)
 }
 
 // The stuffing bin. It stands where few bits are left.
-pub fn stuffing(bytes: &[u8], count: usize, x: State) -> Result<Stepped, Refusal>
-    ensures { stepped_says result ≡ stuffing_of bytes.now count x }
+pub fn stuffing(bits: Payload<'_>, x: State) -> Result<Stepped, Refusal>
+    ensures { stepped_says result ≡ stuffing_of bits.entry.bytes.now bits.entry.count x }
 {
-    guard(bytes, count, x, true)?;
-    slow(bytes, count, x, 0, 4)
+    guard(bits, x, true)?.slow(Prediction { p: 0, lg: 4 })
 }
 
 // What a bin goes by: one context, or a pair.
 trait Contexts: Copy {
     ghost good: { Self → Bool };
 
-    ghost predicts: { Self → Prediction };
+    ghost predicts: { Self → Guess };
 
     ghost update: { Self → ℕ → Self };
 
@@ -428,7 +446,7 @@ trait Contexts: Copy {
 
     fn prediction(self) -> Prediction
         requires { good self ≡ true }
-        ensures { (result ≡ predicts self) × Predicts result };
+        ensures { of_prediction result ≡ predicts self };
 
     fn updated(self, bin: u32) -> Self
         requires { good self ≡ true }
@@ -443,7 +461,7 @@ impl Contexts for Context {
     ghost update = { update_of };
 
     fn is_good(self) -> bool {
-        contexts::good_context(self)
+        self.is_good()
     }
 
     fn prediction(self) -> Prediction {
@@ -454,7 +472,7 @@ impl Contexts for Context {
     }
 
     fn updated(self, bin: u32) -> Context {
-        contexts::updated(self, bin)
+        self.updated(bin)
     }
 }
 
@@ -492,26 +510,21 @@ impl Contexts for Pair {
 
     fn updated(self, bin: u32) -> Pair {
         Pair {
-            first: contexts::updated(self.first, bin),
-            second: contexts::updated(self.second, bin),
+            first: self.first.updated(bin),
+            second: self.second.updated(bin),
         }
     }
 }
 
 // A bin of its contexts, which are updated.
-fn bin_by<C: Contexts>(
-    bytes: &[u8],
-    count: usize,
-    x: State,
-    contexts: C,
-) -> Result<Decoded<C>, Refusal>
-    ensures { says of_bin result ≡ bin_by C.good C.predicts C.update bytes.now count x contexts }
+fn bin_by<C: Contexts>(bits: Payload<'_>, x: State, contexts: C) -> Result<Decoded<C>, Refusal>
+    ensures { says of_bin result ≡ bin_by C.good C.predicts C.update bits.entry.bytes.now bits.entry.count x contexts }
 {
-    guard(bytes, count, x, contexts.is_good())?;
+    let at = guard(bits, x, contexts.is_good())?;
     let g = contexts.prediction();
-    let done = match step(bytes, count, x, g.p, split_range(x, g.lg)) {
+    let done = match at.step(g, at.split(g)) {
         Some(done) => done,
-        None => slow(bytes, count, copied(x), g.p, g.lg)?,
+        None => at.copied().slow(g)?,
     };
     Ok(Decoded {
         bin: done.bin,
@@ -521,25 +534,23 @@ fn bin_by<C: Contexts>(
 }
 
 // A bin of one context.
-pub fn decode(bytes: &[u8], count: usize, x: State, c: Context) -> Result<Decoded<Context>, Refusal>
-    ensures { decoded_says result ≡ decode_of bytes.now count x c }
+pub fn decode(bits: Payload<'_>, x: State, c: Context) -> Result<Decoded<Context>, Refusal>
+    ensures { decoded_says result ≡ decode_of bits.entry.bytes.now bits.entry.count x c }
 {
-    bin_by(bytes, count, x, c)
+    bin_by(bits, x, c)
 }
 
 // A bin of two contexts. Both are updated.
 pub fn decode_pair(
-    bytes: &[u8],
-    count: usize,
+    bits: Payload<'_>,
     x: State,
     a: Context,
     b: Context,
 ) -> Result<Decoded<Pair>, Refusal>
-    ensures { decoded_pair_says result ≡ decode_pair_of bytes.now count x a b }
+    ensures { decoded_pair_says result ≡ decode_pair_of bits.entry.bytes.now bits.entry.count x a b }
 {
     bin_by(
-        bytes,
-        count,
+        bits,
         x,
         Pair {
             first: a,

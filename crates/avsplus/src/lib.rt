@@ -151,7 +151,7 @@ pub extern "C" fn avsplus_signed_golomb(bytes: &[u8], bits: usize, place: usize)
 pub extern "C" fn avsplus_fresh_context() -> Context
     ensures { result ≡ fresh_context }
 {
-    contexts::fresh()
+    Context::fresh()
 }
 
 // The state after a start on a payload.

@@ -6,14 +6,14 @@ use lib.Dec.{eqb}
 use Rattle.rates.specs.Rates.{rate_of, next_lg, w_of}
 use Rattle.rates.specs.declared.Rate.{Rate}
 use Rattle.entries.specs.Entries.{entry_of}
-use Rattle.entries.specs.declared.Entry.TheVariants.{Lg}
+use Rattle.std.proofs.Common.{Some}
 use Rattle.entries.proofs.Main as entries
 use Rattle.contexts.specs.Contexts.{good_context, update_of}
 use Rattle.contexts.specs.declared.Context.{Context}
 use Rattle.contexts.proofs.ContextLaws.{context_ranges}
 
 pub update_by_table : (c : Context) (bin : ℕ) (r : Rate) → good_context c ≡ true → eqb bin c.mps ≡ true → w_of r ≡ rate_of c.cycno
-    → entry_of r c.lg ≡ Lg (update_of c bin).lg
+    → entry_of r c.lg ≡ Some (update_of c bin).lg
 unfolding update_of
 update_by_table c bin r good hit rate-is =
-    entries.entry_given r c.lg (context_ranges c good).high ∙ ap (λ w. Lg (next_lg w c.lg)) rate-is ∙ sym (simp hit)
+    entries.entry_given r c.lg (context_ranges c good).high ∙ ap (λ w. Some (next_lg w c.lg)) rate-is ∙ sym (simp hit)

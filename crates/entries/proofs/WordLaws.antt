@@ -1,20 +1,30 @@
--- The laws of words: those of a block, and that what is read is the table's entry.
-use Prim.Native.Nat.{ℕ, ◌+◌, ◌*◌, ◌/◌, ◌%◌, ◌≤◌}
+-- The laws of words: those of the table, and that what is read is the table's entry.
+use Prim.Native.Nat.{ℕ, zero, suc, ◌+◌, ◌≤◌, ◌<◌}
 use mathlib.Core.Path.{◌≡◌, refl, ap}
+use mathlib.Core.List.{List, [], ◌∷◌}
 use mathlib.Core.Bool.{Bool, true}
 use native.Mathlib.Omega.{arith}
 use borrow.Author.Tests.{eqb-true}
 use lib.Dec.{eqb}
+use lib.ListN.{get_or}
 use Rattle.bits.specs.Lists.{All}
 use Rattle.bits.proofs.TestLaws.{all_below, at_each}
 use Rattle.rates.specs.Rates.{next_lg, w_of, rates}
 use Rattle.rates.specs.declared.Rate.{Rate}
 use Rattle.rates.proofs.RateLaws.{of_each}
+use Rattle.entries.specs.declared.Words.{Words}
 use Rattle.entries.specs.Inside.{words_of, read_of}
 
--- the words of m, among the b-th 32 of 256
-pub in_block : (m b : ℕ) → m / 32 % 8 ≡ b → words_of (32 * b + m % 32) ≡ words_of (m % 256)
-in_block m b e = ap words_of (omega arith)
+-- the words of n numbers from k on
+unfoldable pub words_from : ℕ → ℕ → List Words
+words_from k zero = []
+words_from k (suc n) = words_of k ∷ words_from (suc k) n
+
+pub words_within : (k n i m : ℕ) (d : Words) → i < n → k + i ≡ m → get_or (words_from k n) i d ≡ words_of m
+unfolding words_from
+words_within k zero i m d h e = absurd (omega arith)
+words_within k (suc n) zero m d h e = ap words_of (omega arith)
+words_within k (suc n) (suc i) m d h e = words_within (suc k) n i m d (omega arith) (omega arith)
 
 -- ── what is read is the table's entry ──
 

@@ -1,40 +1,42 @@
 // The tables of rates, as they are read: from words of read-only memory, four entries each.
 #![tactic(auto)]
 
-ghost use Rattle.std.specs.Prelude.{◌≡◌};
+ghost use Rattle.std.specs.Prelude.{◌≡◌, ◌%◌};
 ghost use Rattle.rates.specs.Rates.{next_lg, w_of};
 ghost use Rattle.entries.specs.Entries.{entry_of};
-ghost use Rattle.entries.specs.Inside.{pick_of, read_of};
+ghost use Rattle.entries.specs.Inside.{words_of, pick_of, read_of};
 
+use packed::WORDS;
 use rates::Rate;
 
 mod packed;
-
-// An entry of a table: the next lg, or none where the table has ended.
-#[derive(Clone, Copy)]
-pub enum Entry {
-    Lg(u32),
-    NotGiven,
-}
 
 // Four entries of each table, for rates 3, 4 and 5.
 #[derive(Clone, Copy)]
 struct Words(u64, u64, u64);
 
-fn picked(words: Words, w: u32) -> u64
-    ensures { result ≡ pick_of words w }
+// The words of four lgs, counted from 0.
+fn words_at(m: u32) -> Words
+    ensures { result ≡ words_of (m % 256) }
 {
-    if w == 3 {
-        return words.0;
-    }
-    if w == 4 { words.1 } else { words.2 }
+    WORDS[(m % 256) as usize]
 }
 
-// The entry of the table for w at an lg. Both functions below call it, so that it is not inlined and they are: docs/PERFORMANCE.md.
-fn read(w: u32, lg: u32) -> u32
-    ensures { result ≡ read_of w lg }
+fn picked(words: Words, rate: Rate) -> u64
+    ensures { result ≡ pick_of words (w_of rate) }
 {
-    let word = picked(packed::words_at(lg / 4), w);
+    match rate {
+        Rate::Three => words.0,
+        Rate::Four => words.1,
+        Rate::Five => words.2,
+    }
+}
+
+// The entry of a rate's table at an lg. Both functions below call it, so that it is not inlined and they are: docs/PERFORMANCE.md.
+fn read(rate: Rate, lg: u32) -> u32
+    ensures { result ≡ read_of (w_of rate) lg }
+{
+    let word = picked(words_at(lg / 4), rate);
     ((word >> (16 * (lg % 4))) % 65536) as u32
 }
 
@@ -43,17 +45,17 @@ pub fn next_lg(rate: Rate, lg: u32) -> u32
     ensures { result ≡ next_lg (w_of rate) lg }
 {
     if 1023 < lg {
-        return rates::next_lg(rate, lg);
+        return rate.next_lg(lg);
     }
-    read(rates::width(rate), lg)
+    read(rate, lg)
 }
 
-// The entry of a rate's table at an index.
-pub fn entry_at(rate: Rate, index: u32) -> Entry
+// The entry of a rate's table at an index, or none where the table has ended.
+pub fn entry_at(rate: Rate, index: u32) -> Option<u32>
     ensures { result ≡ entry_of rate index }
 {
     if 1023 < index {
-        return Entry::NotGiven;
+        return None;
     }
-    Entry::Lg(read(rates::width(rate), index))
+    Some(read(rate, index))
 }

@@ -27,8 +27,6 @@ use Rattle.payload.specs.Reader.{golomb}
 use Rattle.rates.specs.declared.Rate.{Rate}
 use Rattle.rates.specs.declared.Rate.TheVariants.{Three, Four, Five}
 use Rattle.entries.specs.Entries.{entry_of}
-use Rattle.entries.specs.declared.Entry.{Entry}
-use Rattle.entries.specs.declared.Entry.TheVariants.{Lg, NotGiven}
 use Rattle.contexts.specs.Contexts.{update_of}
 use Rattle.aec.specs.Bins.{start_of, pair_of, bypass_of, stuffing_of, decode_of, decode_pair_of}
 use Rattle.aec.specs.declared.State.{State}
@@ -321,9 +319,9 @@ abbrev pub updated : Context → ℕ → Outcome (List ℕ)
 updated c bin = done (context_numbers (update_of c bin))
 
 -- the entry of a rate's table at an index, and no number where there is none
-abbrev pub entry_numbers : Entry → List ℕ
-entry_numbers (Lg lg) = lg ∷ []
-entry_numbers NotGiven = []
+abbrev pub entry_numbers : Option ℕ → List ℕ
+entry_numbers (Some lg) = lg ∷ []
+entry_numbers None = []
 
 abbrev pub entry : Rate → ℕ → Outcome (List ℕ)
 entry r k = done (entry_numbers (entry_of r k))

@@ -117,6 +117,7 @@ fn hand_ratio(ratio: Option<Fraction>, numbers: &mut [u64]) -> Answer
 }
 
 // Group g: its sequence header, and its display extension where that is given.
+#[tactic(auto, unfolding(crate::specs::Answers::answered, crate::specs::Answers::after))]
 pub fn group(stream: &[u8], g: usize, numbers: &mut [u64]) -> Answer
     ensures answer { result ≡ answered (map_done group_numbers (group_at stream.now g)) numbers.old }
     ensures numbers { numbers.new ≡ after (map_done group_numbers (group_at stream.now g)) numbers.old }

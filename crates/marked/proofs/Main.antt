@@ -19,7 +19,7 @@ use Rattle.payload.proofs.GolombLaws.{golomb_bound}
 use Rattle.payload.proofs.Main as payload
 use Rattle.rates.specs.declared.Rate.{Rate}
 use Rattle.entries.specs.Entries.{entry_of}
-use Rattle.entries.specs.declared.Entry.TheVariants.{Lg}
+use Rattle.std.proofs.Common.{Some}
 use Rattle.entries.proofs.Main as entries
 use Rattle.aec.specs.Bins.{start_of, bypass_of, stuffing_of, decode_of, decode_pair_of}
 use Rattle.aec.specs.declared.State.{State}
@@ -76,7 +76,7 @@ pub decode_pair_marked : (bytes : List ℕ) (bits : ℕ) (x : State) (a b : Cont
     → decode_pair_of bytes bits x a b ≡ done (bin, y, c, d) → bin ≢ no_bin
 decode_pair_marked bytes bits x a b bin y c d e z = let h = (aec.decode_pair_good bytes bits x a b bin y c d e).0.binary in omega arith
 
-pub entry_marked : (r : Rate) (index lg : ℕ) → entry_of r index ≡ Lg lg → lg ≢ no_lg
+pub entry_marked : (r : Rate) (index lg : ℕ) → entry_of r index ≡ Some lg → lg ≢ no_lg
 entry_marked r index lg e z = let h = entries.entry_bounded r index lg e in omega arith
 
 -- ── how many bits were missing ──

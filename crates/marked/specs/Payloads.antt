@@ -1,13 +1,11 @@
 -- Exp-Golomb numbers, bins and the tables' entries by value. A refusal gives back the place, the state and the contexts that were asked with; in place of
 -- a number or a bin, which it has none of, it has a mark that is no number and no bin. Beside the status is how many bits were missing.
-use Rattle.std.specs.Prelude.{ℕ, ◌≡◌, cond, ◌≢◌, ◌↔◌, eqb, ℤ, pos, neg_ℤ}
+use Rattle.std.specs.Prelude.{ℕ, ◌≡◌, cond, ◌≢◌, ◌↔◌, eqb, ℤ, pos, neg_ℤ, Option, Some, None}
 use Rattle.answers.specs.Answers.{Outcome, done, refused, PAYLOAD_OUT}
 use Rattle.answers.specs.Missing.{missing_in}
 use Rattle.payload.specs.declared.Numbered.{Numbered}
 use Rattle.rates.specs.declared.Rate.TheVariants.{Three, Four, Five}
 use Rattle.entries.specs.Entries.{entry_of}
-use Rattle.entries.specs.declared.Entry.{Entry}
-use Rattle.entries.specs.declared.Entry.TheVariants.{Lg, NotGiven}
 use Rattle.aec.specs.declared.State.{State}
 use Rattle.contexts.specs.declared.Context.{Context}
 use Rattle.marked.specs.declared.Number.{Number}
@@ -67,9 +65,9 @@ pair_answer x a b (refused number carried) = record { status = number; missing =
 
 -- ── the tables of context steps, asked for with a w and an index ──
 
-abbrev pub entry_number : Entry → ℕ
-entry_number (Lg lg) = lg
-entry_number NotGiven = no_lg
+abbrev pub entry_number : Option ℕ → ℕ
+entry_number (Some lg) = lg
+entry_number None = no_lg
 
 -- none for a w that is no rate's
 unfoldable pub entry_answer : ℕ → ℕ → ℕ

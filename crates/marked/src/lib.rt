@@ -12,7 +12,6 @@ ghost use Rattle.marked.specs.Payloads.{no_number, no_signed_number, number_answ
 use aec::{StartError, State, Stepped};
 use bits::Payload;
 use contexts::Context;
-use entries::Entry;
 use payload::GolombError;
 use rates::Rate;
 
@@ -179,7 +178,7 @@ fn not_begun(status: u32, missing: u32, state: State) -> Begun
 pub fn start(bytes: &[u8], bits: usize, state: State) -> Begun
     ensures { result ≡ begun_answer state (start_of bytes.now bits) }
 {
-    match aec::start(bytes, bits) {
+    match aec::start(Payload { bytes, count: bits }) {
         Ok(next) => Begun {
             status: 0,
             missing: 0,
@@ -194,7 +193,7 @@ pub fn start(bytes: &[u8], bits: usize, state: State) -> Begun
 pub fn decode(bytes: &[u8], bits: usize, state: State, context: Context) -> Bin
     ensures { result ≡ bin_answer state context (decode_of bytes.now bits state context) }
 {
-    match aec::decode(bytes, bits, state, context) {
+    match aec::decode(Payload { bytes, count: bits }, state, context) {
         Ok(done) => Bin {
             status: 0,
             missing: 0,
@@ -222,7 +221,7 @@ pub fn decode_pair(
 ) -> PairBin
     ensures { result ≡ pair_answer state first second (decode_pair_of bytes.now bits state first second) }
 {
-    match aec::decode_pair(bytes, bits, state, first, second) {
+    match aec::decode_pair(Payload { bytes, count: bits }, state, first, second) {
         Ok(done) => PairBin {
             status: 0,
             missing: 0,
@@ -265,25 +264,22 @@ fn plain_bin(answer: Result<Stepped, aec::Refusal>, state: State) -> PlainBin
 pub fn bypass(bytes: &[u8], bits: usize, state: State) -> PlainBin
     ensures { result ≡ plain_answer state (bypass_of bytes.now bits state) }
 {
-    plain_bin(aec::bypass(bytes, bits, state), state)
+    plain_bin(aec::bypass(Payload { bytes, count: bits }, state), state)
 }
 
 // A stuffing bin.
 pub fn stuffing(bytes: &[u8], bits: usize, state: State) -> PlainBin
     ensures { result ≡ plain_answer state (stuffing_of bytes.now bits state) }
 {
-    plain_bin(aec::stuffing(bytes, bits, state), state)
+    plain_bin(aec::stuffing(Payload { bytes, count: bits }, state), state)
 }
 
 // ── the tables of context steps ──
 
-fn entry_number(entry: Entry) -> u32
+fn entry_number(entry: Option<u32>) -> u32
     ensures { result ≡ entry_number entry }
 {
-    match entry {
-        Entry::Lg(lg) => lg,
-        Entry::NotGiven => NO_LG,
-    }
+    entry.unwrap_or(NO_LG)
 }
 
 // The entry of the table for w, which is 3, 4 or 5, at an index.

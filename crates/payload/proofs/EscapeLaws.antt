@@ -5,11 +5,11 @@ use mathlib.Core.List.{List, [], ◌∷◌, ◌++◌, append_assoc, append-nil}
 use mathlib.Core.Bool.{true, cond, ◌&&◌, and-false}
 use native.Mathlib.Omega.{arith}
 use native.Mathlib.Numerals.{add-one}
-use native.Mathlib.Nat.{mod-lt}
+use native.Mathlib.Nat.{mod-lt, mul-mod_left}
 use lib.Bits.{and_mask, bit_and}
 use lib.Dec.{eqb, leb}
 use lib.ListN.{length, get_or, take, drop, set, length-append, length-set, drop_of_length-le, take-append-drop}
-use lib.Pow.{pow_pos, shl_lt, shl_exact, mod-mod-pow}
+use lib.Pow.{pow_pos, shl-shr, mod-mod-pow, mod-pow-add}
 use lib.Seq.{take_all, take-suc-set, drop-set-lt, drop-drop, length-take-le, set_split}
 use borrow.Author.Tests.{le-leb, lt-ltb, le-ltb}
 use Rattle.answers.specs.Answers.{done, refused, FULL, TOO_LONG}
@@ -20,7 +20,7 @@ use Rattle.bits.proofs.TestLaws.{by_test}
 use Rattle.bits.proofs.BitLaws.{length_in, bit_in}
 use Rattle.bits.proofs.PackingLaws.{pack_few, pack_over, pack_none, pack_last}
 use Rattle.payload.specs.Escape.{kept, copied, unescaped, removal}
-use Rattle.payload.specs.Inside.{kept_width, Partial, waits, Joined, Pushed, Copied}
+use Rattle.payload.specs.Inside.{kept_width, Partial, waits, Joined, Pushed, Copied, Filled}
 use Rattle.payload.specs.declared.Packer.{Packer}
 
 -- ── the bits of a byte ──
@@ -62,21 +62,19 @@ module _ (out : List ℕ) (full value k byte width v : ℕ) (few : k < 8) (g : J
         left = drop-set-lt (full + 1) out full x (omega arith);
       }
 
-  -- none waited, and all that come wait
-  pub pushed_in : k ≡ 0 → width < 8 →
-      Pushed out out (waits (record { full = full; value = value; k = k })) (waits (record { full = full; value = v; k = width })) (take width (bits_in 8 byte))
-  pushed_in z m =
+  -- none gets full, and all that come wait too
+  pub pushed_in : k + width < 8 →
+      Pushed out out (waits (record { full = full; value = value; k = k })) (waits (record { full = full; value = v; k = k + width })) (take width (bits_in 8 byte))
+  pushed_in m =
       let l = take_bits byte width (omega arith) in
-      let n : value % 2 ^ k ≡ 0 = rw z (omega arith) in
-      let f : 0 * 2 ^ width + v % 2 ^ width ≡ v % 2 ^ width = omega arith in
-      let i : 0 + width ≡ width = omega arith in
+      let low : value % 2 ^ k * 2 ^ width + v % 2 ^ width ≡ v % 2 ^ (k + width) = ap (λ (x : ℕ). x * 2 ^ width + v % 2 ^ width) (sym older) ∙ sym (mod-pow-add v k width) in
       record {
         same = refl;
-        partial = record { few = m; small = mod-lt v (pow_pos width) };
+        partial = record { few = m; small = mod-lt v (pow_pos (k + width)) };
         count = omega arith;
         made = λ rest.
             ap (λ (y : List ℕ). take full out ++ y)
-            (sym (ap (λ (y : List ℕ). pack_on (value % 2 ^ k) k (y ++ rest)) (sym g.bits) ∙ rw (n, z) (pack_few width 0 0 v rest (omega arith) ∙ rw (f, i))));
+            (sym (ap (λ (y : List ℕ). pack_on (value % 2 ^ k) k (y ++ rest)) (sym g.bits) ∙ pack_few width (value % 2 ^ k) k v rest m ∙ rw low));
         left = refl;
       }
 
@@ -126,7 +124,6 @@ pub record Copying (raw out₀ out : List ℕ) (p : Packer) (zeros i : ℕ) : Ty
   pub few : zeros ≤ i
   pub same : length out ≡ length out₀
   pub partial : Partial p
-  pub pairs : p.k % 2 ≡ 0
   pub bound : p.full * 8 + p.k ≤ i * 8
   pub count : p.full * 8 + p.k + length (copied (earlier i raw) (drop i raw)) ≡ length (unescaped raw)
   pub made : take p.full out ++ pack_on p.value p.k (copied (earlier i raw) (drop i raw)) ≡ pack (unescaped raw)
@@ -140,7 +137,6 @@ copying_start raw out =
       few = omega arith;
       same = refl;
       partial = record { few = omega arith; small = omega arith };
-      pairs = refl;
       bound = omega arith;
       count = omega arith;
       made = refl;
@@ -148,14 +144,14 @@ copying_start raw out =
     }
 
 module _ (raw out₀ out : List ℕ) (p : Packer) (zeros i : ℕ) (g : Copying raw out₀ out p zeros i) where
-  pub copying_step : (out' : List ℕ) (p' : Packer) (w zeros' : ℕ) → i < length raw → w ≡ kept_width zeros (get_or raw i 0)
-      → zeros' ≡ cond (eqb (get_or raw i 0) 0) (zeros + 1) 0
-      → Pushed out out' p p' (take w (bits_in 8 (get_or raw i 0))) → Copying raw out₀ out' p' zeros' (i + 1)
-  copying_step out' p' w zeros' h e z u =
+  pub copying_step : (out' : List ℕ) (p' : Packer) (zeros' : ℕ) → i < length raw → zeros' ≡ cond (eqb (get_or raw i 0) 0) (zeros + 1) 0
+      → Pushed out out' p p' (take (kept_width zeros (get_or raw i 0)) (bits_in 8 (get_or raw i 0))) → Copying raw out₀ out' p' zeros' (i + 1)
+  copying_step out' p' zeros' h z u =
       let byte = get_or raw i 0 in
+      let w = kept_width zeros byte in
       let rest = copied (earlier (suc i) raw) (drop (i + 1) raw) in
       let stay : kept (earlier i raw) byte ≡ take w (bits_in 8 byte) =
-      kept_width_lem (earlier i raw) byte ∙ ap (λ (n : ℕ). take (kept_width n byte) (bits_in 8 byte)) (sym g.run) ∙ ap (λ (n : ℕ). take n (bits_in 8 byte)) (sym e) in
+      kept_width_lem (earlier i raw) byte ∙ ap (λ (n : ℕ). take (kept_width n byte) (bits_in 8 byte)) (sym g.run) in
       let head : copied (earlier i raw) (drop i raw) ≡ take w (bits_in 8 byte) ++ rest = copied_cons (earlier i raw) raw i h ∙ ap (λ (x : List ℕ). x ++ rest) stay in
       let n : length (copied (earlier i raw) (drop i raw)) ≡ length (take w (bits_in 8 byte)) + length rest = ap length head ∙ length-append (take w (bits_in 8 byte)) rest in
       let v = width_is zeros byte in
@@ -171,7 +167,6 @@ module _ (raw out₀ out : List ℕ) (p : Packer) (zeros i : ℕ) (g : Copying r
         few = by_test (eqb byte 0) (λ t. let y : zeros' ≡ zeros + 1 = z ∙ rw t in omega (arith, g.few)) (λ f. let y : zeros' ≡ 0 = z ∙ rw f in omega arith);
         same = u.same ∙ g.same;
         partial = u.partial;
-        pairs = omega (arith, u.count, g.pairs);
         bound = omega (arith, u.count, g.bound);
         count = rw next (omega (arith, u.count, g.count));
         made = rw next (u.made rest ∙ ap (λ (x : List ℕ). take p.full out ++ pack_on p.value p.k x) (sym head) ∙ g.made);
@@ -197,23 +192,21 @@ module _ (raw out₀ out : List ℕ) (p : Packer) (zeros i : ℕ) (g : Copying r
 
 -- ── the last byte ──
 
--- it fits, and the shift loses nothing
-module _ (p : Packer) (h : Partial p) where
-  pub last_lt : p.value * 2 ^ (8 - p.k) < 256
-  last_lt = let few = h.few in let e : p.k + (8 - p.k) ≡ 8 = omega arith in rw e at (shl_lt p.k (8 - p.k) h.small)
-
-  pub last_is : (p.value * 2 ^ (8 - p.k)) % 4294967296 ≡ p.value * 2 ^ (8 - p.k)
-  last_is = let few = h.few in shl_exact p.k (8 - p.k) 32 h.small (omega arith)
+-- the shift and the cast leave the bits that wait, with zeros after them
+pub last_is : (v k : ℕ) → k < 8 → v * 2 ^ (8 - k) % 4294967296 % 256 ≡ v % 2 ^ k * 2 ^ (8 - k)
+last_is v k few =
+    let d = 8 - k in
+    let e : k + d ≡ 8 = omega arith in
+    let low : v * 2 ^ d % 2 ^ d ≡ 0 = mul-mod_left v (2 ^ d) in
+    mod-mod-pow (v * 2 ^ d) 24 8 ∙ (rw e at (mod-pow-add (v * 2 ^ d) k d)) ∙ rw (shl-shr v d, low) (omega arith)
 
 -- what is in the output then: no bit was left, or one byte more is written
-pub filled_none : (out : List ℕ) (p : Packer) → p.k ≡ 0 →
-    out ≡ take p.full out ++ pack_on p.value p.k [] ++ drop (p.full + length (pack_on p.value p.k [])) out
+pub filled_none : (out : List ℕ) (p : Packer) → p.k ≡ 0 → Filled out out p
 filled_none out p h =
     let n : p.full + 0 ≡ p.full = omega arith in
     rw (pack_none p.value p.k h, append-nil, n) (sym (take-append-drop p.full out))
 
-pub filled_last : (out : List ℕ) (p : Packer) (v : ℕ) → (p.k ≡ 0 → ⊥) → p.full < length out → v ≡ p.value * 2 ^ (8 - p.k) →
-    set out p.full v ≡ take p.full out ++ pack_on p.value p.k [] ++ drop (p.full + length (pack_on p.value p.k [])) out
+pub filled_last : (out : List ℕ) (p : Packer) (v : ℕ) → (p.k ≡ 0 → ⊥) → p.full < length out → v ≡ p.value * 2 ^ (8 - p.k) → Filled out (set out p.full v) p
 filled_last out p v h r e =
     rw (pack_last p.value p.k h, add-one, ← e) (set_split out p.full v r ∙ sym (append_assoc (take p.full out) (v ∷ []) (drop (suc p.full) out)))
 

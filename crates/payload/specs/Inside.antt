@@ -1,5 +1,5 @@
 -- What the private functions promise one another; no part of document 01.
-use Rattle.std.specs.Prelude.{ℕ, ◌+◌, ◌*◌, ◌/◌, ◌%◌, ◌^◌, ◌≤◌, ◌<◌, ◌≡◌, List, [], ◌++◌, cond, ◌&&◌, leb, eqb, length, take, drop}
+use Rattle.std.specs.Prelude.{ℕ, ◌+◌, ◌*◌, ◌/◌, ◌%◌, ◌^◌, ◌<◌, ◌≡◌, List, [], ◌++◌, cond, ◌&&◌, leb, eqb, length, take, drop}
 use Rattle.bits.specs.Bits.{bits_in, pack_on, pack}
 use Rattle.payload.specs.Escape.{unescaped}
 use Rattle.payload.specs.declared.Packer.{Packer}
@@ -22,14 +22,6 @@ pub record Joined (v byte width r : ℕ) : Type 0 where
   pub older : r / 2 ^ width ≡ v % 256
   pub bits : bits_in width r ≡ take width (bits_in 8 byte)
 
--- what pushing asks: bits come in pairs, and there is room for them
-pub record Pushable (out : List ℕ) (p : Packer) (width : ℕ) : Type 0 where
-  pub partial : Partial p
-  pub pairs : p.k % 2 ≡ 0
-  pub even : width % 2 ≡ 0
-  pub most : width ≤ 8
-  pub room : p.full * 8 + p.k + width ≤ length out * 8
-
 -- Bits were pushed: with whatever follows, the bytes are those of the bits before, these and what follows.
 pub record Pushed (out₀ out : List ℕ) (p₀ p : Packer) (bits : List ℕ) : Type 0 where
   pub same : length out ≡ length out₀
@@ -46,3 +38,7 @@ pub record Copied (raw out₀ out : List ℕ) (p : Packer) : Type 0 where
   pub within : p.full * 8 + p.k < length raw * 8 + 1
   pub made : take p.full out ++ pack_on p.value p.k [] ≡ pack (unescaped raw)
   pub left : drop p.full out ≡ drop p.full out₀
+
+-- after the last byte is written, which is filled with zeros; later bytes stay
+abbrev pub Filled : List ℕ → List ℕ → Packer → Type 0
+Filled out₀ out p = let last = pack_on p.value p.k [] in out ≡ take p.full out₀ ++ last ++ drop (p.full + length last) out₀

@@ -3,11 +3,11 @@
 
 ghost use Rattle.std.specs.Prelude.{◌≡◌, cond, [], ◌++◌, ◌+◌, ◌*◌, ◌≤◌, ◌<◌, eqb, length, get_or, take, drop};
 ghost use Rattle.answers.specs.Limits.{longest_payload};
-ghost use Rattle.bits.specs.Bits.{bits_in, pack_on, payload};
+ghost use Rattle.bits.specs.Bits.{bits_in, payload};
 ghost use Rattle.payload.specs.Escape.{removal, output_after, removed_says};
 ghost use Rattle.payload.specs.Golomb.{golomb_says, read_refused, stands_for};
 ghost use Rattle.payload.specs.Reader.{zeros_on, golomb, signed_golomb};
-ghost use Rattle.payload.specs.Inside.{kept_width, Partial, waits, Joined, Pushable, Pushed, Copied};
+ghost use Rattle.payload.specs.Inside.{kept_width, waits, Joined, Pushed, Copied, Filled};
 
 use bits::{Payload, ReadError};
 
@@ -23,7 +23,7 @@ pub enum RemovalError {
     TooLong,
 }
 
-// `full` bytes are written; the last k bits of `value` are not yet.
+// `full` bytes are written; the last k bits of `value` wait to be, and older ones are out already.
 #[derive(Clone, Copy)]
 struct Packer {
     full: usize,
@@ -45,52 +45,59 @@ fn joined(v: u32, byte: u8, width: u32) -> u32
     ensures { Joined v byte width result }
 {
     let mut w = v % 256;
-    let mut j: u32 = 0;
-    while j < width {
+    for j in 0..width {
         w = (w << 1) + bit_of(byte, j);
-        j += 1;
     }
     w
 }
 
-// All bits of a byte are pushed: the oldest eight go out, and as many wait as before.
-fn push_byte(out: &mut [u8], p: Packer, byte: u8) -> Packer
-    requires { Pushable out.old (waits p) 8 }
-    ensures { Pushed out.old out.new (waits p) (waits result) (take 8 (bits_in 8 byte)) }
-{
-    let full = p.full;
-    let value = p.value;
-    let k = p.k;
-    let v = joined(value, byte, 8);
-    out[full] = ((v >> k) % 256) as u8;
-    Packer {
-        full: full + 1,
-        value: v,
-        k: k,
+impl Packer {
+    // The first WIDTH bits of a byte are pushed, and the oldest eight that wait then go out, if there are as many.
+    fn push<const WIDTH: u32>(self, out: &mut [u8], byte: u8) -> Packer
+        requires { (self.k < 8) × (self.full < length out.old) × (WIDTH ≤ 8) }
+        ensures { Pushed out.old out.new (waits self) (waits result) (take WIDTH (bits_in 8 byte)) }
+    {
+        let value = joined(self.value, byte, WIDTH);
+        let missing = 8 - WIDTH;
+        if self.k < missing {
+            return Packer {
+                full: self.full,
+                value,
+                k: self.k + WIDTH,
+            };
+        }
+        let k = self.k - missing;
+        out[self.full] = ((value >> k) % 256) as u8;
+        Packer {
+            full: self.full + 1,
+            value,
+            k,
+        }
     }
-}
 
-// The first six bits of a byte are pushed: two fewer wait than before, or six where none did.
-fn push_six(out: &mut [u8], p: Packer, byte: u8) -> Packer
-    requires { Pushable out.old (waits p) 6 }
-    ensures { Pushed out.old out.new (waits p) (waits result) (take 6 (bits_in 8 byte)) }
-{
-    let full = p.full;
-    let value = p.value;
-    let k = p.k;
-    let v = joined(value, byte, 6);
-    if k == 0 {
-        return Packer {
-            full: full,
-            value: v,
-            k: 6,
-        };
+    // Bits that stay of a byte after so many raw bytes 00 are pushed.
+    fn push_kept(self, out: &mut [u8], byte: u8, zeros: usize) -> Packer
+        requires { (self.k < 8) × (self.full < length out.old) }
+        ensures { Pushed out.old out.new (waits self) (waits result) (take (kept_width zeros byte) (bits_in 8 byte)) }
+    {
+        if kept_width(zeros, byte) == 8 {
+            self.push::<8>(out, byte)
+        } else {
+            self.push::<6>(out, byte)
+        }
     }
-    out[full] = ((v >> (k - 2)) % 256) as u8;
-    Packer {
-        full: full + 1,
-        value: v,
-        k: k - 2,
+
+    // The last byte is filled with zeros and written; the answer is the bit count.
+    fn fill(self, out: &mut [u8]) -> usize
+        requires { (self.k < 8) × (self.full * 8 + self.k ≤ length out.old * 8) × (self.full ≤ longest_payload) }
+        ensures count { result ≡ self.full * 8 + self.k }
+        ensures written { Filled out.old out.new (waits self) }
+    {
+        if self.k == 0 {
+            return self.full * 8;
+        }
+        out[self.full] = ((self.value << (8 - self.k)) % 256) as u8;
+        self.full * 8 + self.k as usize
     }
 }
 
@@ -112,67 +119,22 @@ fn zeros_after(zeros: usize, byte: u8) -> usize
     if byte == 0 { zeros + 1 } else { 0 }
 }
 
-// Bits that stay of a byte are pushed.
-fn push_kept(out: &mut [u8], p: Packer, byte: u8, width: u32) -> Packer
-    requires { (6 ≤ width) × Pushable out.old (waits p) width }
-    ensures { Pushed out.old out.new (waits p) (waits result) (take width (bits_in 8 byte)) }
-{
-    if width == 8 {
-        push_byte(out, p, byte)
-    } else {
-        push_six(out, p, byte)
-    }
-}
-
-// The bits that wait, and no older ones.
-fn settled(p: Packer) -> Packer
-    requires { p.k < 8 }
-    ensures { result ≡ waits p }
-{
-    let one: u32 = 1;
-    Packer {
-        full: p.full,
-        value: p.value % (one << p.k),
-        k: p.k,
-    }
-}
-
 // The bits that stay are pushed; the last byte may be still to be written.
 fn copy_bits(raw: &[u8], out: &mut [u8]) -> Packer
     requires { (length raw.now ≤ longest_payload) × (length raw.now ≤ length out.old) }
-    ensures { Copied raw.now out.old out.new result }
+    ensures { Copied raw.now out.old out.new (waits result) }
 {
-    let mut p = Packer {
+    let mut packer = Packer {
         full: 0,
         value: 0,
         k: 0,
     };
     let mut zeros: usize = 0;
-    let mut i: usize = 0;
-    while i < raw.len() {
-        let byte = raw[i];
-        let width = kept_width(zeros, byte);
-        p = push_kept(out, p, byte, width);
+    for &byte in raw {
+        packer = packer.push_kept(out, byte, zeros);
         zeros = zeros_after(zeros, byte);
-        i += 1;
     }
-    settled(p)
-}
-
-// The last byte is filled with zeros and written; the answer is the bit count.
-fn fill_last(out: &mut [u8], p: Packer) -> usize
-    requires { Partial p × (p.full * 8 + p.k ≤ length out.old * 8) × (p.full ≤ longest_payload) }
-    ensures count { result ≡ p.full * 8 + p.k }
-    ensures written { out.new ≡ take p.full out.old ++ pack_on p.value p.k [] ++ drop (p.full + length (pack_on p.value p.k [])) out.old }
-{
-    let full = p.full;
-    let value = p.value;
-    let k = p.k;
-    if k == 0 {
-        return full * 8;
-    }
-    out[full] = (value << (8 - k)) as u8;
-    full * 8 + k as usize
+    packer
 }
 
 // Escape bits are removed from raw bytes into out; the answer is how many bits are left.
@@ -186,8 +148,8 @@ pub fn remove_escapes(raw: &[u8], out: &mut [u8]) -> Result<usize, RemovalError>
     if out.len() < raw.len() {
         return Err(RemovalError::Full);
     }
-    let p = copy_bits(raw, out);
-    Ok(fill_last(out, p))
+    let packer = copy_bits(raw, out);
+    Ok(packer.fill(out))
 }
 
 // ── Exp-Golomb numbers ──

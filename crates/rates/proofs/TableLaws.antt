@@ -3,12 +3,14 @@ use Prim.Native.Nat.{ℕ, zero, suc, ◌+◌, ◌≤◌, ◌<◌, min}
 use mathlib.Core.Path.{◌≡◌, refl, sym, ap, ◌∙◌, subst}
 use mathlib.Core.Bool.{Bool, true, ◌&&◌}
 use mathlib.Core.List.{List, [], ◌∷◌}
-use mathlib.Core.Option.{none, some, none-ne-some}
+use Rattle.std.proofs.Common.{Some, None}
+use Rattle.std.specs.List.{slice_get}
+use Rattle.std.proofs.lemmas.Option.{none-some}
 use native.Mathlib.Omega.{arith}
 use native.Mathlib.Nat.{add-zero}
 use borrow.Author.Tests.{leb-true, eqb-true}
 use lib.Dec.{leb, eqb}
-use lib.ListN.{length, get_elem?}
+use lib.ListN.{length}
 use Rattle.bits.specs.Lists.{All}
 use Rattle.bits.proofs.TestLaws.{and_true}
 use Rattle.rates.specs.Rates.{next_lg, w_of, rates}
@@ -19,23 +21,23 @@ use Rattle.rates.proofs.RateLaws.{of_each}
 
 -- ── an entry is the formula's value ──
 
-from_entry : (w lg n k : ℕ) → k < n → get_elem? (next_lgs w lg n) k ≡ some (next_lg w (lg + k))
+from_entry : (w lg n k : ℕ) → k < n → slice_get (next_lgs w lg n) k ≡ Some (next_lg w (lg + k))
 unfolding next_lgs
 from_entry w lg zero k h = absurd (omega arith)
-from_entry w lg (suc n) zero h = ap (λ i. some (next_lg w i)) (sym (add-zero lg))
-from_entry w lg (suc n) (suc k) h = from_entry w (suc lg) n k (omega arith) ∙ ap (λ i. some (next_lg w i)) (omega arith)
+from_entry w lg (suc n) zero h = ap (λ i. Some (next_lg w i)) (sym (add-zero lg))
+from_entry w lg (suc n) (suc k) h = from_entry w (suc lg) n k (omega arith) ∙ ap (λ i. Some (next_lg w i)) (omega arith)
 
-from_none : (w lg n k : ℕ) → n ≤ k → get_elem? (next_lgs w lg n) k ≡ none
+from_none : (w lg n k : ℕ) → n ≤ k → slice_get (next_lgs w lg n) k ≡ None
 unfolding next_lgs
 from_none w lg zero k h = refl
 from_none w lg (suc n) zero h = absurd (omega arith)
 from_none w lg (suc n) (suc k) h = from_none w (suc lg) n k (omega arith)
 
-pub table_entry : (r : Rate) (k : ℕ) → k ≤ 1023 → get_elem? (table_of r) k ≡ some (next_lg (w_of r) k)
+pub table_entry : (r : Rate) (k : ℕ) → k ≤ 1023 → slice_get (table_of r) k ≡ Some (next_lg (w_of r) k)
 unfolding table_of
-table_entry r k h = from_entry (w_of r) 0 1024 k (omega arith) ∙ ap (λ i. some (next_lg (w_of r) i)) (omega arith)
+table_entry r k h = from_entry (w_of r) 0 1024 k (omega arith) ∙ ap (λ i. Some (next_lg (w_of r) i)) (omega arith)
 
-pub table_none : (r : Rate) (k : ℕ) → 1023 < k → get_elem? (table_of r) k ≡ none
+pub table_none : (r : Rate) (k : ℕ) → 1023 < k → slice_get (table_of r) k ≡ None
 unfolding table_of
 table_none r k h = from_none (w_of r) 0 1024 k (omega arith)
 
@@ -82,8 +84,8 @@ obeys_both : (w k x : ℕ) (xs : List ℕ) → obeys w k (x ∷ xs) ≡ true →
 unfolding obeys
 obeys_both w k x xs t = and_true (entry_obeys w k x xs) (obeys w (suc k) xs) t
 
-obeys_at : (w i : ℕ) (xs : List ℕ) → obeys w i xs ≡ true → (k x : ℕ) → get_elem? xs k ≡ some x → Obeys w (i + k) x
-obeys_at w i [] t k x e = absurd (none-ne-some x e)
+obeys_at : (w i : ℕ) (xs : List ℕ) → obeys w i xs ≡ true → (k x : ℕ) → slice_get xs k ≡ Some x → Obeys w (i + k) x
+obeys_at w i [] t k x e = absurd (none-some x e)
 obeys_at w i (y ∷ ys) t zero x e =
     let h = entry_obeys_lem w i y ys (obeys_both w i y ys t).0 in
     let same : y ≡ x = cc e in
@@ -93,10 +95,10 @@ obeys_at w i (y ∷ ys) t (suc k) x e =
     let there : suc i + k ≡ i + suc k = omega arith in
     subst (λ j. Obeys w j x) there (obeys_at w (suc i) ys (obeys_both w i y ys t).1 k x e)
 
-near_at : (w i : ℕ) (xs : List ℕ) → obeys w i xs ≡ true → (k x y : ℕ) → get_elem? xs k ≡ some x → get_elem? xs (suc k) ≡ some y → Near x y
+near_at : (w i : ℕ) (xs : List ℕ) → obeys w i xs ≡ true → (k x y : ℕ) → slice_get xs k ≡ Some x → slice_get xs (suc k) ≡ Some y → Near x y
 unfolding near Near
-near_at w i [] t k x y e f = absurd (none-ne-some x e)
-near_at w i (a ∷ []) t zero x y e f = absurd (none-ne-some y f)
+near_at w i [] t k x y e f = absurd (none-some x e)
+near_at w i (a ∷ []) t zero x y e f = absurd (none-some y f)
 near_at w i (a ∷ b ∷ cs) t zero x y e f =
     let h = and_true _ _ (entry_obeys_lem w i a (b ∷ cs) (obeys_both w i a (b ∷ cs) t).0).1 in
     let same : a ≡ x = cc e in

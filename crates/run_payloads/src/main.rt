@@ -4,7 +4,9 @@
 
 use aec::StartError;
 use bits::Payload;
+use contexts::Context;
 use payload::{GolombError, RemovalError};
+use rates::Rate;
 use std::{fmt, io};
 use text::Hex;
 
@@ -112,14 +114,15 @@ fn example_golomb(rt: &impl Print, byte: u8, count: usize) -> io::Result<()> {
 
 // The bins, and the state and the context after them.
 fn example_bins(rt: &impl Print, example: u32, bytes: &[u8], count: u32) -> io::Result<()> {
+    let bits = Payload { bytes, count: 24 };
     print!(rt; "example {example}")?;
-    let mut state = match aec::start(bytes, 24) {
+    let mut state = match aec::start(bits) {
         Ok(state) => state,
         Err(why) => return println!(rt; " {}", Refused::from(why)),
     };
-    let mut context = contexts::fresh();
+    let mut context = Context::fresh();
     for _ in 0..count {
-        let done = match aec::decode(bytes, 24, state, context) {
+        let done = match aec::decode(bits, state, context) {
             Ok(done) => done,
             Err(why) => return println!(rt; " {}", Refused::from(why)),
         };
@@ -137,12 +140,8 @@ fn example_bins(rt: &impl Print, example: u32, bytes: &[u8], count: u32) -> io::
 // ── document 02, E9: what belongs to a rate, and its tables lent ──
 
 fn rate(rt: &impl Print, cycno: u32) -> io::Result<()> {
-    let rate = rates::rate_by(cycno);
-    print!(rt;
-        "cycno {cycno} {} {}",
-        rates::width(rate),
-        rates::gain(rate)
-    )?;
+    let rate = Rate::by(cycno);
+    print!(rt; "cycno {cycno} {} {}", rate.width(), rate.gain())?;
     for lg in [1023, 1024, 0xFFFFFFFF] {
         print!(rt; " {}", entries::next_lg(rate, lg))?;
     }

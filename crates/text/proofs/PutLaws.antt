@@ -86,9 +86,6 @@ put_then {at} {next} {last} {a} {b} {out} {between} {done} p q =
     let f = q.place in
     record { place = omega arith; bytes = cc (written_append at a b out, p.place, p.bytes, q.bytes) }
 
-pub put_length : {at next : ℕ} {s out done : List ℕ} → Put at s out next done → length done ≡ length out
-put_length {at} {next} {s} {out} p = ap length p.bytes ∙ length_written at s out
-
 -- another way to say the text
 pub put_same : {at next : ℕ} {s t out done : List ℕ} → s ≡ t → Put at s out next done → Put at t out next done
 put_same e p = rw e at p

@@ -49,7 +49,7 @@ decimal_more n l h =
 -- ── signs ──
 
 -- a 32-bit number's sign, tested as the code tests it
-pub below_zero : {t : Bool} (z : ℤ) → SFits w32 z → lt_z (to_z w32 (of_z w32 z)) (pos 0) ≡ t → lt_z z (pos 0) ≡ t
+below_zero : {t : Bool} (z : ℤ) → SFits w32 z → lt_z (to_z w32 (of_z w32 z)) (pos 0) ≡ t → lt_z z (pos 0) ≡ t
 below_zero z f e = ap (λ (y : ℤ). lt_z y (pos 0)) (sym (to_z-of_z {w = w32} {z = z} f)) ∙ e
 
 minus : (z : ℤ) → lt_z z (pos 0) ≡ true → 45 ∷ decimal (nat_abs z) ≡ signed z

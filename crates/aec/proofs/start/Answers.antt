@@ -16,29 +16,29 @@ use Rattle.aec.proofs.GoodLaws.{settle_refused}
 use Rattle.aec.proofs.start.Goals as goal
 use Rattle.aec.proofs.start.Goals.{After-read}
 
-pub returns-then-bytes-gt-LIMIT : goal.returns-then-bytes-gt-LIMIT
+pub returns-then-bits-gt-LIMIT : goal.returns-then-bits-gt-LIMIT
 unfolding start_of
-returns-then-bytes-gt-LIMIT c = limit_passed _ _ c.if-bytes-gt-LIMIT.true
+returns-then-bits-gt-LIMIT c = limit_passed _ _ c.if-bits-gt-LIMIT.true
 
 pub settle-requires : goal.settle-requires
 settle-requires c =
     let a = c.args in
-    let n = nine_bits a.bytes.now a.count _ (within_value _ 0 9 (omega arith) _ (sym c.read.ensures ∙ c.in-Ok.is)) in
-    (c.if-bytes-gt-LIMIT.false, n.0, omega arith)
+    let n = nine_bits a.bits.bytes.now a.bits.count _ (within_value _ 0 9 (omega arith) _ (sym c.read.ensures ∙ c.in-Ok.is)) in
+    (n.0, omega arith)
 
 -- the answer goes by the read
 module _ (c : After-read) where
   abbrev bits : List ℕ
-  bits = payload c.args.bytes.now c.args.count
+  bits = payload c.args.bits.bytes.now c.args.bits.count
 
   abbrev by_read : Result ℕ ℕ → Outcome State
   by_read = read_or (λ vt. settle_of bits 255 vt 9) payload_out
 
-  answer : by_read (read_at bits 0 9) ≡ start_of c.args.bytes.now c.args.count
+  answer : by_read (read_at bits 0 9) ≡ start_of c.args.bits.bytes.now c.args.bits.count
   unfolding start_of
-  answer = limit_kept _ _ c.if-bytes-gt-LIMIT.false
+  answer = limit_kept _ _ c.if-bits-gt-LIMIT.false
 
-started : (c : After-read) (v : ℕ) → ◌≡◌ {A = Result ℕ ReadError} c.read.result (Ok v) → settle_of (bits c) 255 v 9 ≡ start_of c.args.bytes.now c.args.count
+started : (c : After-read) (v : ℕ) → ◌≡◌ {A = Result ℕ ReadError} c.read.result (Ok v) → settle_of (bits c) 255 v 9 ≡ start_of c.args.bits.bytes.now c.args.bits.count
 started c v e =
     let r = within_value (bits c) 0 9 (omega arith) _ (sym c.read.ensures ∙ e) in
     ap (by_read c) (sym r) ∙ answer c
@@ -56,7 +56,7 @@ pub returns-in-Err-Missing : goal.returns-in-Err-Missing
 returns-in-Err-Missing c =
     let r = (goal.at.returns-in-Err-Missing c).After-read in
     let m = within_missing (bits r) 0 9 (omega arith) _ (sym c.read.ensures ∙ c.in-Err-Missing.is ∙ ap Err c.in-Err-Missing.field-0-is) in
-    ap (by_read r) (sym m) ∙ answer r
+    ap (payload_out {A = State}) c.in-Err-Missing.missing-is ∙ ap (by_read r) (sym m) ∙ answer r
 
 pub returns-in-Err-TooWide : goal.returns-in-Err-TooWide
 returns-in-Err-TooWide c = never_wide (bits (goal.at.returns-in-Err-TooWide c).After-read) 0 9 (omega arith) (sym c.read.ensures ∙ c.in-Err-TooWide.is ∙ ap Err c.in-Err-TooWide.field-0-is)

@@ -2,8 +2,7 @@
 use Prim.Native.Nat.{◌≤◌}
 use mathlib.Core.Path.{sym, ap, ◌∙◌}
 use native.Mathlib.Omega.{arith}
-use Rattle.entries.specs.Inside.{read_of}
-use Rattle.entries.specs.declared.Entry.TheVariants.{Lg}
+use Rattle.std.proofs.Common.{Some}
 use Rattle.entries.proofs.WordLaws.{read_is}
 use Rattle.entries.proofs.Main.{entry_given, entry_not_given}
 use Rattle.entries.proofs.entry_at.Goals as goal
@@ -15,5 +14,5 @@ pub returns : goal.returns
 returns c =
     let a = c.args in
     let within : a.index ≤ 1023 = omega arith in
-    ap Lg (c.read.ensures ∙ ap (λ n. read_of n a.index) c.width.ensures ∙ read_is a.rate a.index within)
+    ap Some (c.read.ensures ∙ read_is a.rate a.index within)
     ∙ sym (entry_given a.rate a.index within)

@@ -3,12 +3,12 @@ use Prim.Native.Nat.{ℕ}
 use mathlib.Core.Path.{◌≡◌, refl, sym, ap, ◌∙◌}
 use native.Mathlib.Omega.{arith}
 use borrow.Author.Tests.{ne_eqb}
-use Rattle.entries.specs.declared.Entry.{Entry}
+use Rattle.std.proofs.Common.{Option}
 use Rattle.marked.specs.Payloads.{entry_number, entry_answer}
 use Rattle.marked.proofs.next_lg.Goals as goal
 
 -- the number of an entry that is the answer's for a w
-told : (index : ℕ) {number w v : ℕ} {entry answered : Entry} → number ≡ entry_number entry → entry ≡ answered → w ≡ v → entry_number answered ≡ entry_answer v index
+told : (index : ℕ) {number w v : ℕ} {entry answered : Option ℕ} → number ≡ entry_number entry → entry ≡ answered → w ≡ v → entry_number answered ≡ entry_answer v index
     → number ≡ entry_answer w index
 told index number_is entry-is w-is answer = number_is ∙ ap entry_number entry-is ∙ answer ∙ sym (ap (λ w. entry_answer w index) w-is)
 

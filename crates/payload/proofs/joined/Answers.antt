@@ -8,12 +8,12 @@ use Rattle.payload.proofs.joined.Goals as goal
 use Rattle.payload.proofs.joined.Goals.{After-bit_of}
 
 pub loop-j-init : goal.loop-j-init
-loop-j-init c = (search rules, joined_none _ _)
+loop-j-init c = joined_none _ _
 
 -- nothing is shifted out
 module _ (c : After-bit_of) where
   small : c.loop-j.w < 65536
-  small = joined_small _ _ c.loop-j.j c.loop-j.w c.loop-j.invariant.1 (search rules)
+  small = joined_small _ _ c.loop-j.j c.loop-j.w c.loop-j.invariant (search rules)
 
   sum_is : c.loop-j.w * 2 % 4294967296 + c.bit_of.result ≡ c.loop-j.w * 2 + c.bit_of.result
   sum_is = omega (arith, small)
@@ -25,7 +25,7 @@ pub loop-j-preserved : goal.loop-j-preserved
 loop-j-preserved c =
     let t = c.loop-j in
     let (is, low) = c.bit_of.ensures in
-    (search rules, rw (sum_is c) (joined_more _ _ t.j t.w t.invariant.1 c.bit_of.result (search rules) is low))
+    rw (sum_is c) (joined_more _ _ t.j t.w t.invariant c.bit_of.result (search rules) is low)
 
 pub returns : goal.returns
-returns c = let l = c.loop-j in let e : l.j ≡ c.args.width = omega arith in rw (← e) l.invariant.1
+returns c = let l = c.loop-j in let e : l.j ≡ c.args.width = omega arith in rw (← e) l.invariant

@@ -6,6 +6,7 @@ use native.Mathlib.Omega.{arith}
 use lib.ListN.{length}
 use Rattle.answers.specs.Answers.{Outcome, done}
 use Rattle.payload.specs.Escape.{output_after, removal}
+use Rattle.payload.specs.Inside.{waits}
 use Rattle.payload.proofs.EscapeLaws.{removal_long, removal_full, removal_done, output_made}
 use Rattle.payload.proofs.remove_escapes.Goals as goal
 
@@ -23,18 +24,18 @@ returns-then-out-raw c =
     let e = removal_full a.raw.now a.out.now c.if-raw-gt-LIMIT.false c.if-out-raw.true in
     record { answer = sym e; output = settled a.raw.now a.out.now _ _ e refl }
 
-pub fill_last-requires : goal.fill_last-requires
-fill_last-requires c =
-    let g = c.copy_bits-p.ensures in
-    (g.partial, omega (arith, g.within, g.same), omega (arith, g.within))
+pub fill-requires : goal.fill-requires
+fill-requires c =
+    let g = c.copy_bits-packer.ensures in
+    (g.partial.few, omega (arith, g.within, g.same), omega (arith, g.within))
 
 pub returns : goal.returns
 returns c =
     let a = c.args in
-    let g = c.copy_bits-p.ensures in
-    let f = c.fill_last.ensures in
+    let g = c.copy_bits-packer.ensures in
+    let f = c.fill.ensures in
     let e = removal_done a.raw.now a.out.now c.if-raw-gt-LIMIT.false c.if-out-raw.false ∙ ap done (sym (f.count ∙ g.count)) in
     record {
       answer = sym e;
-      output = settled a.raw.now a.out.now _ _ e (f.written ∙ output_made a.raw.now a.out.now _ c.copy_bits-p.result g c.if-out-raw.false);
+      output = settled a.raw.now a.out.now _ _ e (f.written ∙ output_made a.raw.now a.out.now _ (waits c.copy_bits-packer.result) g c.if-out-raw.false);
     }

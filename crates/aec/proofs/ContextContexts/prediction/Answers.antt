@@ -1,7 +1,6 @@
--- The context's own.
-use Rattle.aec.proofs.PairLaws.{own_within}
-use mathlib.Core.Path.{refl}
+-- A context within its ranges predicts within them.
+use Rattle.contexts.proofs.ContextLaws.{context_ranges}
 use Rattle.aec.proofs.ContextContexts.prediction.Goals as goal
 
-pub returns : goal.returns
-returns c = (refl, own_within _ c.requires)
+pub invariant_of-result : goal.invariant_of-result
+invariant_of-result c = let r = context_ranges _ c.requires in record { p_fits = r.mps; lg_some = r.low; lg_fits = r.high }
