@@ -21,7 +21,9 @@ use Rattle.layout.specs.Obeys.{Fits}
 use Rattle.layout.specs.Reader.{Reading, short}
 use Rattle.bodies.specs.Reader.{record_of, header_result, plain_of, coloured_of, copyright_of, is_one, display_short, display_of, number_of, not_copyright, by_number, extension_result, extension_of}
 use Rattle.answers.specs.Results.{◌>>=◌}
-use Rattle.bodies.specs.Answers.{value_number, fault_number, fault_bit, answer_of, Extension, display, copyright}
+use Rattle.bodies.specs.Answers.{value_number, fault_number, fault_bit, answer_of}
+use Rattle.bodies.specs.declared.ExtensionBody.{ExtensionBody}
+use Rattle.bodies.specs.declared.ExtensionBody.TheVariants as extension
 use Rattle.layout.specs.Breaks.{Breaks}
 use Rattle.bodies.specs.Breaks.{ShortDisplay, BreaksDisplay, short_display, coloured, plain, BreaksExtension, empty}
 use Rattle.bodies.specs.Breaks as breaks
@@ -53,7 +55,7 @@ module _ {A : Type 0} (layout : Layout) (make : List ℕ → Option A) (made : (
   record_breaks : (record_of layout make body ≡ Err why) ↔ Breaks layout body why
   record_breaks = ((λ e. breaks_if layout body why (record_bad layout make body why made e)), λ b. bad_record layout make body why (if_breaks layout body why b))
 
-  wrapped_breaks : (wrap : A → Extension) → ((record_of layout make body >>= (λ a. Ok (wrap a))) ≡ Err why) ↔ Breaks layout body why
+  wrapped_breaks : (wrap : A → ExtensionBody) → ((record_of layout make body >>= (λ a. Ok (wrap a))) ≡ Err why) ↔ Breaks layout body why
   wrapped_breaks wrap = (
     (λ e. record_breaks.0 (wrapped_bad (record_of layout make body) wrap why e)),
     λ b. ap (λ (r : Reading A). r >>= (λ a. Ok (wrap a))) (record_breaks.1 b),
@@ -64,15 +66,15 @@ header_bad = record_breaks Header header_record header_made
 
 plain_bad : (body : List ℕ) (why : Fault) → (plain_of body ≡ Err why) ↔ Breaks Display body why
 unfolding plain_of
-plain_bad body why = wrapped_breaks Display plain_record plain_made body why display
+plain_bad body why = wrapped_breaks Display plain_record plain_made body why extension.Display
 
 coloured_bad : (body : List ℕ) (why : Fault) → (coloured_of body ≡ Err why) ↔ Breaks Coloured body why
 unfolding coloured_of
-coloured_bad body why = wrapped_breaks Coloured coloured_record coloured_made body why display
+coloured_bad body why = wrapped_breaks Coloured coloured_record coloured_made body why extension.Display
 
 copyright_bad : (body : List ℕ) (why : Fault) → (copyright_of body ≡ Err why) ↔ Breaks Copyright body why
 unfolding copyright_of
-copyright_bad body why = wrapped_breaks Copyright copyright_record copyright_made body why copyright
+copyright_bad body why = wrapped_breaks Copyright copyright_record copyright_made body why extension.Copyright
 
 -- a result that is bad exactly for what is broken is refused with the number and the bit of that
 pub refused_iff : {A : Type 0} (r : Reading A) (Broken : Fault → Type 0) → ((why : Fault) → (r ≡ Err why) ↔ Broken why) → (n : ℕ) (carried : List Carried) →

@@ -24,7 +24,9 @@ use Rattle.layout.specs.Breaks.{Holds}
 use Rattle.layout.specs.Reader.{Reading, read_value, values_of, reading}
 use Rattle.bodies.specs.Reader.{recorded, record_of, header_of, plain_of, coloured_of, copyright_of, display_short, display_of, number_of, not_copyright, by_number, extension_result, extension_of}
 use Rattle.answers.specs.Results.{◌>>=◌}
-use Rattle.bodies.specs.Answers.{fault_number, fault_bit, answer_of, Extension, display, copyright, opaque}
+use Rattle.bodies.specs.Answers.{fault_number, fault_bit, answer_of}
+use Rattle.bodies.specs.declared.ExtensionBody.{ExtensionBody}
+use Rattle.bodies.specs.declared.ExtensionBody.TheVariants as extension
 use Rattle.layout.specs.declared.Field.{Field}
 use Rattle.layout.specs.declared.Layout.{Layout}
 use Rattle.layout.specs.declared.Layout.TheVariants.{Header, Display, Coloured, Copyright}
@@ -139,82 +141,82 @@ colour_bit body v e = bit_value (bits_of body) 8 v (drop 8 (bits_of body)) refl 
 
 -- ── display extensions ──
 
-wrapped : {A : Type 0} (r : Reading A) (wrap : A → Extension) (x : Extension) → (r >>= (λ a. Ok (wrap a))) ≡ Ok x → (a : A) × (r ≡ Ok a) × (x ≡ wrap a)
+wrapped : {A : Type 0} (r : Reading A) (wrap : A → ExtensionBody) (x : ExtensionBody) → (r >>= (λ a. Ok (wrap a))) ≡ Ok x → (a : A) × (r ≡ Ok a) × (x ≡ wrap a)
 wrapped r wrap x e = let b = bind_ok r _ x e in (b.0, b.1, sym (ok_same b.2))
 
-pub wrapped_bad : {A : Type 0} (r : Reading A) (wrap : A → Extension) (why : Fault) → (r >>= (λ a. Ok (wrap a))) ≡ Err why → r ≡ Err why
+pub wrapped_bad : {A : Type 0} (r : Reading A) (wrap : A → ExtensionBody) (why : Fault) → (r >>= (λ a. Ok (wrap a))) ≡ Err why → r ≡ Err why
 wrapped_bad (Ok a) wrap why e = not_err e
-wrapped_bad (Err f) wrap why e = ap Err (err_same {A = Extension} e)
+wrapped_bad (Err f) wrap why e = ap Err (err_same {A = ExtensionBody} e)
 
 -- what a display extension's body gives
-display_if : (body : List ℕ) (x : Extension) → HasNumber body 2 → display_of body ≡ Ok x → (d : DisplayExtension) × (x ≡ display d) × DisplayBody body d
+display_if : (body : List ℕ) (x : ExtensionBody) → HasNumber body 2 → display_of body ≡ Ok x → (d : DisplayExtension) × (x ≡ extension.Display d) × DisplayBody body d
 unfolding plain_of coloured_of
 display_if body x n e = by_test (display_short body) (λ t. not_ok (sym (display_short_lem body t) ∙ e)) long
   where
-    long : display_short body ≡ false → (d : DisplayExtension) × (x ≡ display d) × DisplayBody body d
+    long : display_short body ≡ false → (d : DisplayExtension) × (x ≡ extension.Display d) × DisplayBody body d
     long f =
         let (given, c, small) = colour_there body (not_short body f) in
         let r : cond (eqb given 1) (coloured_of body) (plain_of body) ≡ Ok x = sym (display_long body (std.Some given) f c) ∙ e in
         by_test (eqb given 1)
         (λ t.
-        let w = wrapped (record_of Coloured coloured_record body) display x (rw t at r) in
+        let w = wrapped (record_of Coloured coloured_record body) extension.Display x (rw t at r) in
         let o = record_if Coloured coloured_record body w.0 w.1 in
         (w.0, w.2, coloured n (subst (ColourGiven body) (eqb-true given 1 t) c) o.0 o.1 o.2))
         (λ g.
         let not-one = eqb-false given 1 g in
         let none : given ≡ 0 = omega arith in
-        let w = wrapped (record_of Display plain_record body) display x (rw g at r) in
+        let w = wrapped (record_of Display plain_record body) extension.Display x (rw g at r) in
         let o = record_if Display plain_record body w.0 w.1 in
         (w.0, w.2, plain n (subst (ColourGiven body) none c) o.0 o.1 o.2))
 
-if_display : (body : List ℕ) (d : DisplayExtension) → DisplayBody body d → HasNumber body 2 × (display_of body ≡ Ok (display d))
+if_display : (body : List ℕ) (d : DisplayExtension) → DisplayBody body d → HasNumber body 2 × (display_of body ≡ Ok (extension.Display d))
 unfolding plain_of coloured_of least_bytes
 if_display body d (plain n c vs h m) = (
   n,
   display_long body (std.Some 0) (short_by body (std.Some 0) h.long c) c
-      ∙ ap (λ (r : Reading DisplayExtension). r >>= (λ d. Ok (display d))) (if_record Display plain_record body d vs h m),
+      ∙ ap (λ (r : Reading DisplayExtension). r >>= (λ d. Ok (extension.Display d))) (if_record Display plain_record body d vs h m),
 )
 if_display body d (coloured n c vs h m) =
     let long = h.long in (
       n,
       display_long body (std.Some 1) (short_by body (std.Some 1) (omega arith) c ∙ le-ltb (length body) 9 h.long) c
-          ∙ ap (λ (r : Reading DisplayExtension). r >>= (λ d. Ok (display d))) (if_record Coloured coloured_record body d vs h m),
+          ∙ ap (λ (r : Reading DisplayExtension). r >>= (λ d. Ok (extension.Display d))) (if_record Coloured coloured_record body d vs h m),
     )
 
 -- ── copyright extensions ──
 
-copyright_if : (body : List ℕ) (x : Extension) → HasNumber body 4 → copyright_of body ≡ Ok x → (c : CopyrightExtension) × (x ≡ copyright c) × CopyrightBody body c
+copyright_if : (body : List ℕ) (x : ExtensionBody) → HasNumber body 4 → copyright_of body ≡ Ok x → (c : CopyrightExtension) × (x ≡ extension.Copyright c) × CopyrightBody body c
 unfolding copyright_of
 copyright_if body x n e =
-    let w = wrapped (record_of Copyright copyright_record body) copyright x e in
+    let w = wrapped (record_of Copyright copyright_record body) extension.Copyright x e in
     let r = record_if Copyright copyright_record body w.0 w.1 in
     (w.0, w.2, record { number = n; values = r.0; obeys = r.1; recorded = r.2 })
 
-if_copyright : (body : List ℕ) (c : CopyrightExtension) → CopyrightBody body c → HasNumber body 4 × (copyright_of body ≡ Ok (copyright c))
+if_copyright : (body : List ℕ) (c : CopyrightExtension) → CopyrightBody body c → HasNumber body 4 × (copyright_of body ≡ Ok (extension.Copyright c))
 unfolding copyright_of
 if_copyright body c h = (
   h.number,
-  ap (λ (r : Reading CopyrightExtension). r >>= (λ c. Ok (copyright c))) (if_record Copyright copyright_record body c h.values h.obeys h.recorded),
+  ap (λ (r : Reading CopyrightExtension). r >>= (λ c. Ok (extension.Copyright c))) (if_record Copyright copyright_record body c h.values h.obeys h.recorded),
 )
 
 -- ── extensions ──
 
 -- why an extension answers what it does
-pub data Answers (scope : Scope) (body : List ℕ) (x : Extension) : Type 0 where
-  as_display : (d : DisplayExtension) → scope ≡ Head → x ≡ display d → DisplayBody body d → Answers scope body x
-  as_copyright : (c : CopyrightExtension) → x ≡ copyright c → CopyrightBody body c → Answers scope body x
-  as_opaque : (n : ℕ) → x ≡ opaque n → HasNumber body n → n ≢ 4 → (scope ≡ Head → n ≢ 2) → Answers scope body x
+pub data Answers (scope : Scope) (body : List ℕ) (x : ExtensionBody) : Type 0 where
+  as_display : (d : DisplayExtension) → scope ≡ Head → x ≡ extension.Display d → DisplayBody body d → Answers scope body x
+  as_copyright : (c : CopyrightExtension) → x ≡ extension.Copyright c → CopyrightBody body c → Answers scope body x
+  as_opaque : (n : ℕ) → x ≡ extension.Opaque n → HasNumber body n → n ≢ 4 → (scope ≡ Head → n ≢ 2) → Answers scope body x
 
-by_scope : (scope : Scope) (body : List ℕ) (n : ℕ) (x : Extension) → HasNumber body n → n ≢ 4 → not_copyright scope body n ≡ Ok x → Answers scope body x
+by_scope : (scope : Scope) (body : List ℕ) (n : ℕ) (x : ExtensionBody) → HasNumber body n → n ≢ 4 → not_copyright scope body n ≡ Ok x → Answers scope body x
 by_scope Head body n x r f e =
     by_test (eqb n 2)
-    (λ t. let h = display_if body x (subst (HasNumber body) (eqb-true n 2 t) r) (sym (ap (λ (b : Bool). cond b (display_of body) (Ok (opaque n))) t) ∙ e) in as_display h.0 refl h.1 h.2)
+    (λ t. let h = display_if body x (subst (HasNumber body) (eqb-true n 2 t) r) (sym (ap (λ (b : Bool). cond b (display_of body) (Ok (extension.Opaque n))) t) ∙ e) in as_display h.0 refl h.1 h.2)
     (λ o.
-    as_opaque n (sym (ok_same (sym (ap (λ (b : Bool). cond b (display_of body) (Ok (opaque n))) o) ∙ e))) r f
+    as_opaque n (sym (ok_same (sym (ap (λ (b : Bool). cond b (display_of body) (Ok (extension.Opaque n))) o) ∙ e))) r f
     (λ p. eqb-false n 2 o))
 by_scope Picture body n x r f e = as_opaque n (sym (ok_same e)) r f (λ p. let z : ◌≡◌ {A = ℕ} 0 1 = cc in absurd (omega arith))
 
-pub extension_if : (scope : Scope) (body : List ℕ) (x : Extension) → extension_result scope body ≡ Ok x → Answers scope body x
+pub extension_if : (scope : Scope) (body : List ℕ) (x : ExtensionBody) → extension_result scope body ≡ Ok x → Answers scope body x
 unfolding extension_result by_number
 extension_if scope body x e =
     let b = bind_ok (read_value (number_of body)) _ x e in
@@ -228,19 +230,19 @@ by_number_lem : (scope : Scope) (body : List ℕ) (n : ℕ) → HasNumber body n
 unfolding extension_result
 by_number_lem scope body n h = ap (λ (x : Result ℕ ℕ). read_value x >>= by_number scope body) ((number_iff body n).1 h)
 
-pub if_as_display : (body : List ℕ) (d : DisplayExtension) → DisplayBody body d → extension_result Head body ≡ Ok (display d)
+pub if_as_display : (body : List ℕ) (d : DisplayExtension) → DisplayBody body d → extension_result Head body ≡ Ok (extension.Display d)
 unfolding by_number
 if_as_display body d h = let i = if_display body d h in by_number_lem Head body 2 i.0 ∙ i.1
 
-pub if_as_copyright : (scope : Scope) (body : List ℕ) (c : CopyrightExtension) → CopyrightBody body c → extension_result scope body ≡ Ok (copyright c)
+pub if_as_copyright : (scope : Scope) (body : List ℕ) (c : CopyrightExtension) → CopyrightBody body c → extension_result scope body ≡ Ok (extension.Copyright c)
 unfolding by_number
 if_as_copyright scope body c h = let i = if_copyright body c h in by_number_lem scope body 4 i.0 ∙ i.1
 
-other_number : (scope : Scope) (body : List ℕ) (n : ℕ) → (scope ≡ Head → n ≢ 2) → not_copyright scope body n ≡ Ok (opaque n)
-other_number Head body n f = ap (λ (b : Bool). cond b (display_of body) (Ok (opaque n))) (ne_eqb n 2 (f refl))
+other_number : (scope : Scope) (body : List ℕ) (n : ℕ) → (scope ≡ Head → n ≢ 2) → not_copyright scope body n ≡ Ok (extension.Opaque n)
+other_number Head body n f = ap (λ (b : Bool). cond b (display_of body) (Ok (extension.Opaque n))) (ne_eqb n 2 (f refl))
 other_number Picture body n f = refl
 
-pub if_as_opaque : (scope : Scope) (body : List ℕ) (n : ℕ) → HasNumber body n → n ≢ 4 → (scope ≡ Head → n ≢ 2) → extension_result scope body ≡ Ok (opaque n)
+pub if_as_opaque : (scope : Scope) (body : List ℕ) (n : ℕ) → HasNumber body n → n ≢ 4 → (scope ≡ Head → n ≢ 2) → extension_result scope body ≡ Ok (extension.Opaque n)
 unfolding by_number
 if_as_opaque scope body n e f g =
     by_number_lem scope body n e
@@ -310,12 +312,12 @@ unfolding header_of answer_of
 if_header body h i = ap answer_of (if_record Header header_record body h i.values i.obeys i.recorded)
 
 -- an answer has one reason
-display_reason : (scope : Scope) (body : List ℕ) (d : DisplayExtension) → Answers scope body (display d) → (scope ≡ Head) × DisplayBody body d
+display_reason : (scope : Scope) (body : List ℕ) (d : DisplayExtension) → Answers scope body (extension.Display d) → (scope ≡ Head) × DisplayBody body d
 display_reason scope body d (as_display e p x h) = let s : e ≡ d = cc in (p, subst (DisplayBody body) s h)
 display_reason scope body d (as_copyright c x h) = let z : ◌≡◌ {A = ℕ} 0 1 = cc in absurd (omega arith)
 display_reason scope body d (as_opaque n x r f g) = let z : ◌≡◌ {A = ℕ} 0 1 = cc in absurd (omega arith)
 
-copyright_reason : (scope : Scope) (body : List ℕ) (c : CopyrightExtension) → Answers scope body (copyright c) → CopyrightBody body c
+copyright_reason : (scope : Scope) (body : List ℕ) (c : CopyrightExtension) → Answers scope body (extension.Copyright c) → CopyrightBody body c
 copyright_reason scope body c (as_display d p x h) = let z : ◌≡◌ {A = ℕ} 0 1 = cc in absurd (omega arith)
 copyright_reason scope body c (as_copyright e x h) = let s : e ≡ c = cc in subst (CopyrightBody body) s h
 copyright_reason scope body c (as_opaque n x r f g) = let z : ◌≡◌ {A = ℕ} 0 1 = cc in absurd (omega arith)
@@ -323,33 +325,33 @@ copyright_reason scope body c (as_opaque n x r f g) = let z : ◌≡◌ {A = ℕ
 abbrev Alone : Scope → List ℕ → ℕ → Type 0
 Alone scope body n = HasNumber body n × (n ≢ 4) × (scope ≡ Head → n ≢ 2)
 
-opaque_reason : (scope : Scope) (body : List ℕ) (n : ℕ) → Answers scope body (opaque n) → Alone scope body n
+opaque_reason : (scope : Scope) (body : List ℕ) (n : ℕ) → Answers scope body (extension.Opaque n) → Alone scope body n
 opaque_reason scope body n (as_display d p x h) = let z : ◌≡◌ {A = ℕ} 0 1 = cc in absurd (omega arith)
 opaque_reason scope body n (as_copyright c x h) = let z : ◌≡◌ {A = ℕ} 0 1 = cc in absurd (omega arith)
 opaque_reason scope body n (as_opaque m x r f g) = let s : m ≡ n = cc in subst (Alone scope body) s (r, f, g)
 
-answers_by : (scope : Scope) (body : List ℕ) (x : Extension) → extension_of scope body ≡ done x → Answers scope body x
+answers_by : (scope : Scope) (body : List ℕ) (x : ExtensionBody) → extension_of scope body ≡ done x → Answers scope body x
 unfolding extension_of
 answers_by scope body x e = extension_if scope body x (answer_done (extension_result scope body) x e)
 
-by_answers : (scope : Scope) (body : List ℕ) (x : Extension) → extension_result scope body ≡ Ok x → extension_of scope body ≡ done x
+by_answers : (scope : Scope) (body : List ℕ) (x : ExtensionBody) → extension_result scope body ≡ Ok x → extension_of scope body ≡ done x
 unfolding extension_of answer_of
 by_answers scope body x e = ap answer_of e
 
-pub answers_display : (scope : Scope) (body : List ℕ) (d : DisplayExtension) → extension_of scope body ≡ done (display d) → (scope ≡ Head) × DisplayBody body d
-answers_display scope body d e = display_reason scope body d (answers_by scope body (display d) e)
+pub answers_display : (scope : Scope) (body : List ℕ) (d : DisplayExtension) → extension_of scope body ≡ done (extension.Display d) → (scope ≡ Head) × DisplayBody body d
+answers_display scope body d e = display_reason scope body d (answers_by scope body (extension.Display d) e)
 
-pub display_answers : (scope : Scope) (body : List ℕ) (d : DisplayExtension) → (scope ≡ Head) × DisplayBody body d → extension_of scope body ≡ done (display d)
-display_answers scope body d h = ap (λ (p : Scope). extension_of p body) h.0 ∙ by_answers Head body (display d) (if_as_display body d h.1)
+pub display_answers : (scope : Scope) (body : List ℕ) (d : DisplayExtension) → (scope ≡ Head) × DisplayBody body d → extension_of scope body ≡ done (extension.Display d)
+display_answers scope body d h = ap (λ (p : Scope). extension_of p body) h.0 ∙ by_answers Head body (extension.Display d) (if_as_display body d h.1)
 
-pub answers_copyright : (scope : Scope) (body : List ℕ) (c : CopyrightExtension) → extension_of scope body ≡ done (copyright c) → CopyrightBody body c
-answers_copyright scope body c e = copyright_reason scope body c (answers_by scope body (copyright c) e)
+pub answers_copyright : (scope : Scope) (body : List ℕ) (c : CopyrightExtension) → extension_of scope body ≡ done (extension.Copyright c) → CopyrightBody body c
+answers_copyright scope body c e = copyright_reason scope body c (answers_by scope body (extension.Copyright c) e)
 
-pub copyright_answers : (scope : Scope) (body : List ℕ) (c : CopyrightExtension) → CopyrightBody body c → extension_of scope body ≡ done (copyright c)
-copyright_answers scope body c h = by_answers scope body (copyright c) (if_as_copyright scope body c h)
+pub copyright_answers : (scope : Scope) (body : List ℕ) (c : CopyrightExtension) → CopyrightBody body c → extension_of scope body ≡ done (extension.Copyright c)
+copyright_answers scope body c h = by_answers scope body (extension.Copyright c) (if_as_copyright scope body c h)
 
-pub answers_opaque : (scope : Scope) (body : List ℕ) (n : ℕ) → extension_of scope body ≡ done (opaque n) → Alone scope body n
-answers_opaque scope body n e = opaque_reason scope body n (answers_by scope body (opaque n) e)
+pub answers_opaque : (scope : Scope) (body : List ℕ) (n : ℕ) → extension_of scope body ≡ done (extension.Opaque n) → Alone scope body n
+answers_opaque scope body n e = opaque_reason scope body n (answers_by scope body (extension.Opaque n) e)
 
-pub opaque_answers : (scope : Scope) (body : List ℕ) (n : ℕ) → Alone scope body n → extension_of scope body ≡ done (opaque n)
-opaque_answers scope body n h = by_answers scope body (opaque n) (if_as_opaque scope body n h.0 h.1 h.2)
+pub opaque_answers : (scope : Scope) (body : List ℕ) (n : ℕ) → Alone scope body n → extension_of scope body ≡ done (extension.Opaque n)
+opaque_answers scope body n h = by_answers scope body (extension.Opaque n) (if_as_opaque scope body n h.0 h.1 h.2)

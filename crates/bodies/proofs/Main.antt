@@ -16,7 +16,9 @@ use Rattle.bodies.specs.Bodies.{HeaderBody, DisplayBody, CopyrightBody}
 use Rattle.layout.specs.Breaks.{Holds, Breaks}
 use Rattle.bodies.specs.Breaks.{ShortDisplay, BreaksExtension}
 use Rattle.bodies.specs.Reader.{header_result, header_of, display_short, extension_result, extension_of}
-use Rattle.bodies.specs.Answers.{fault_number, fault_bit, answer_of, header_says, display, copyright, opaque, extension_says}
+use Rattle.bodies.specs.Answers.{fault_number, fault_bit, answer_of}
+use Rattle.bodies.specs.declared.ExtensionBody.{ExtensionBody}
+use Rattle.bodies.specs.declared.ExtensionBody.TheVariants as extension
 use Rattle.layout.specs.declared.Layout.TheVariants.{Header, Display, Coloured, Copyright}
 use Rattle.layout.specs.declared.Fault.{Fault}
 use Rattle.bodies.specs.declared.SequenceHeader.{SequenceHeader}
@@ -63,11 +65,11 @@ header_bit body number bit e = let (why, b, n, c) = (header_refused_iff body num
 -- ── extensions ──
 
 -- A display record is answered in a group's head, exactly for the bodies of display extensions.
-pub display_iff : (scope : Scope) (body : List ℕ) (d : DisplayExtension) → (extension_of scope body ≡ done (display d)) ↔ ((scope ≡ Head) × DisplayBody body d)
+pub display_iff : (scope : Scope) (body : List ℕ) (d : DisplayExtension) → (extension_of scope body ≡ done (extension.Display d)) ↔ ((scope ≡ Head) × DisplayBody body d)
 display_iff scope body d = (laws.answers_display scope body d, laws.display_answers scope body d)
 
 -- A copyright record is answered anywhere, exactly for the bodies of copyright extensions.
-pub copyright_iff : (scope : Scope) (body : List ℕ) (c : CopyrightExtension) → (extension_of scope body ≡ done (copyright c)) ↔ CopyrightBody body c
+pub copyright_iff : (scope : Scope) (body : List ℕ) (c : CopyrightExtension) → (extension_of scope body ≡ done (extension.Copyright c)) ↔ CopyrightBody body c
 copyright_iff scope body c = (laws.answers_copyright scope body c, laws.copyright_answers scope body c)
 
 -- An extension's number is its body's first four bits.
@@ -75,11 +77,11 @@ pub number_iff : (body : List ℕ) (n : ℕ) → HasNumber body n ↔ ((n < 16) 
 number_iff = numbers.bits_iff
 
 -- Any other number, and number 2 after a picture header, is answered alone.
-pub opaque_iff : (scope : Scope) (body : List ℕ) (n : ℕ) → (extension_of scope body ≡ done (opaque n)) ↔ (HasNumber body n × (n ≢ 4) × (scope ≡ Head → n ≢ 2))
+pub opaque_iff : (scope : Scope) (body : List ℕ) (n : ℕ) → (extension_of scope body ≡ done (extension.Opaque n)) ↔ (HasNumber body n × (n ≢ 4) × (scope ≡ Head → n ≢ 2))
 opaque_iff scope body n = (laws.answers_opaque scope body n, laws.opaque_answers scope body n)
 
 -- The test of a body with a number says so too, from four bits.
-pub is_opaque_iff : (scope : Scope) (body : List ℕ) (n : ℕ) → HasNumber body n → (is_opaque scope body ≡ true) ↔ (extension_of scope body ≡ done (opaque n))
+pub is_opaque_iff : (scope : Scope) (body : List ℕ) (n : ℕ) → HasNumber body n → (is_opaque scope body ≡ true) ↔ (extension_of scope body ≡ done (extension.Opaque n))
 is_opaque_iff scope body n h =
     let t = opaque_test scope body n h in
     let o = opaque_iff scope body n in ((λ e. let k = t.0 e in o.1 (h, k.0, k.1)), λ e. let k = o.0 e in t.1 (k.1, k.2))
@@ -133,11 +135,11 @@ no_value why = (breaks.fault_apart why).1
 
 -- ── no two answers say the same ──
 
-pub header_one_to_one : OneToOne header_says
-header_one_to_one = says.header_says_lem
+pub header_one_to_one : OneToOne (answer_of {A = SequenceHeader})
+header_one_to_one = says.answer_one
 
-pub extension_one_to_one : OneToOne extension_says
-extension_one_to_one = says.extension_says_lem
+pub extension_one_to_one : OneToOne (answer_of {A = ExtensionBody})
+extension_one_to_one = says.answer_one
 
 -- Nothing that is given is said as another: numbers and bits tell all faults apart.
 pub answered_one_to_one : {A : Type 0} → OneToOne (answer_of {A = A})

@@ -15,6 +15,7 @@ use Rattle.answers.proofs.ResultLaws.{ok_same}
 use Rattle.bits.proofs.TestLaws.{by_test, contrary, and_true}
 use Rattle.bits.proofs.BitLaws.{length_in}
 use Rattle.bits.proofs.Main.{read_exactly}
+use Rattle.layout.specs.Reader.{Reading, read_value}
 use Rattle.bodies.specs.Extensions.{starts_with, numbered, HasNumber, is_opaque}
 use Rattle.bodies.specs.Reader.{number_of}
 use Rattle.bodies.specs.declared.Scope.{Scope}
@@ -80,9 +81,9 @@ number_byte (byte ∷ body) n h e = let z : ◌≡◌ {A = ℕ} 0 1 = cc in omeg
 -- ── tests of the number ──
 
 -- whether the number that was read is n
-abbrev pub is_read : ℕ → Result ℕ ℕ → Bool
+abbrev pub is_read : {E : Type 0} → ℕ → Result ℕ E → Bool
 is_read n (Ok m) = eqb m n
-is_read n (Err m) = false
+is_read n (Err why) = false
 
 not_read : (n : ℕ) (r : Result ℕ ℕ) → r ≢ Ok n → is_read n r ≡ false
 not_read n (Ok m) h = ne_eqb m n (λ e. h (ap Ok e))
@@ -94,6 +95,14 @@ numbered_read body n k =
     (λ t. t ∙ sym (ap (is_read n) ((number_iff body n).1 (record { small = k; bits = t })) ∙ eq-eqb n n refl))
     (λ f. f ∙ sym (not_read n (number_of body) (λ e. contrary (numbered n body) ((number_iff body n).0 e).bits f)))
 
+-- the same with a number that is not there as SHORT
+read_alike : (n : ℕ) (r : Result ℕ ℕ) → is_read n r ≡ is_read n (read_value r)
+read_alike n (Ok m) = refl
+read_alike n (Err m) = refl
+
+pub numbered_two : (body : List ℕ) → numbered 2 body ≡ is_read 2 (read_value (number_of body))
+numbered_two body = numbered_read body 2 (omega arith) ∙ read_alike 2 (number_of body)
+
 pub numbered_by : (body : List ℕ) (m n : ℕ) → n < 16 → HasNumber body m → numbered n body ≡ eqb m n
 numbered_by body m n k h = numbered_read body n k ∙ ap (is_read n) ((number_iff body m).1 h)
 
@@ -102,16 +111,22 @@ abbrev pub opaque_number : Scope → ℕ → Bool
 opaque_number Head n = not (eqb n 4) && not (eqb n 2)
 opaque_number Picture n = not (eqb n 4)
 
-abbrev pub opaque_read : Scope → Result ℕ ℕ → Bool
+abbrev pub opaque_read : Scope → Reading ℕ → Bool
 opaque_read scope (Ok n) = opaque_number scope n
-opaque_read scope (Err m) = true
+opaque_read scope (Err why) = true
 
-pub opaque_read_lem : (scope : Scope) (body : List ℕ) (r : Result ℕ ℕ) → number_of body ≡ r → is_opaque scope body ≡ opaque_read scope r
+pub opaque_read_lem : (scope : Scope) (body : List ℕ) → is_opaque scope body ≡ opaque_read scope (read_value (number_of body))
 unfolding is_opaque
-opaque_read_lem Head body (Ok n) e = rw (numbered_read body 4 (omega arith), numbered_read body 2 (omega arith), e)
-opaque_read_lem Head body (Err m) e = rw (numbered_read body 4 (omega arith), numbered_read body 2 (omega arith), e)
-opaque_read_lem Picture body (Ok n) e = rw (numbered_read body 4 (omega arith), e)
-opaque_read_lem Picture body (Err m) e = rw (numbered_read body 4 (omega arith), e)
+opaque_read_lem Head body = rw (numbered_read body 4 (omega arith), numbered_read body 2 (omega arith)) (in_head (number_of body))
+  where
+    in_head : (r : Result ℕ ℕ) → not (is_read 4 r) && not (is_read 2 r) ≡ opaque_read Head (read_value r)
+    in_head (Ok n) = refl
+    in_head (Err m) = refl
+opaque_read_lem Picture body = rw (numbered_read body 4 (omega arith)) (after_picture (number_of body))
+  where
+    after_picture : (r : Result ℕ ℕ) → not (is_read 4 r) ≡ opaque_read Picture (read_value r)
+    after_picture (Ok n) = refl
+    after_picture (Err m) = refl
 
 opaque_number_lem : (scope : Scope) (n : ℕ) → (opaque_number scope n ≡ true) ↔ ((n ≢ 4) × (scope ≡ Head → n ≢ 2))
 opaque_number_lem Head n = (
@@ -126,5 +141,5 @@ opaque_number_lem Picture n = (
 -- an extension of number n is opaque where n is neither 4 nor, in a head, 2
 pub opaque_test : (scope : Scope) (body : List ℕ) (n : ℕ) → HasNumber body n → (is_opaque scope body ≡ true) ↔ ((n ≢ 4) × (scope ≡ Head → n ≢ 2))
 opaque_test scope body n h =
-    let e = opaque_read_lem scope body (Ok n) ((number_iff body n).1 h) in
+    let e = opaque_read_lem scope body ∙ ap (λ (r : Result ℕ ℕ). opaque_read scope (read_value r)) ((number_iff body n).1 h) in
     let i = opaque_number_lem scope n in ((λ t. i.0 (sym e ∙ t)), λ k. e ∙ i.1 k)

@@ -7,18 +7,11 @@ use mathlib.Core.Bool.{cond}
 use lib.Dec.{eqb}
 use Rattle.answers.specs.Answers.{Carried, at_offset, at_bit, missing, Outcome, done, refused, OneToOne, SHORT, MARKER, STUFFING}
 use Rattle.answers.proofs.OutcomeLaws.{undone}
-use Rattle.bodies.specs.Answers.{value_number, fault_number, fault_bit, answer_of, header_gives, header_says, Extension, display, copyright, opaque, extension_gives, extension_says}
-use Rattle.bodies.specs.Reader.{header_result, header_of, extension_result, extension_of}
+use Rattle.bodies.specs.Answers.{value_number, fault_number, fault_bit, answer_of}
 use Rattle.layout.specs.declared.JudgedField.{JudgedField}
 use Rattle.layout.specs.declared.JudgedField.TheVariants.{Width, Height, Chroma, Precision, Aspect, Rate, Transfer, Matrix, Stereo, CopyrightOwner, CopyrightNumber}
 use Rattle.layout.specs.declared.Fault.{Fault}
 use Rattle.layout.specs.declared.Fault.TheVariants.{Short, Marker, Value, Stuffing}
-use Rattle.bodies.specs.declared.Scope.{Scope}
-use Rattle.bodies.specs.declared.SequenceHeader.{SequenceHeader}
-use Rattle.bodies.specs.declared.HeaderAnswer.{HeaderAnswer}
-use Rattle.bodies.specs.declared.HeaderAnswer.TheVariants as header
-use Rattle.bodies.specs.declared.ExtensionAnswer.{ExtensionAnswer}
-use Rattle.bodies.specs.declared.ExtensionAnswer.TheVariants as extension
 
 -- ── what is wrong with a body ──
 
@@ -71,45 +64,3 @@ result_of_lem (Err fault) = ap Err (fault_of_lem fault)
 
 pub answer_one : {A : Type 0} → OneToOne (answer_of {A = A})
 answer_one = undone answer_of result_of result_of_lem
-
--- ── answers ──
-
-abbrev header_from : Result SequenceHeader Fault → HeaderAnswer
-header_from (Ok h) = header.Header h
-header_from (Err fault) = header.Refused fault
-
-header_from_lem : (a : HeaderAnswer) → header_from (header_gives a) ≡ a
-unfolding header_gives
-header_from_lem (header.Header h) = refl
-header_from_lem (header.Refused fault) = refl
-
-pub header_says_lem : OneToOne header_says
-unfolding header_says
-header_says_lem a b e = undone header_gives header_from header_from_lem a b (answer_one (header_gives a) (header_gives b) e)
-
-abbrev extension_from : Result Extension Fault → ExtensionAnswer
-extension_from (Ok (display d)) = extension.Display d
-extension_from (Ok (copyright c)) = extension.Copyright c
-extension_from (Ok (opaque n)) = extension.Opaque n
-extension_from (Err fault) = extension.Refused fault
-
-extension_from_lem : (a : ExtensionAnswer) → extension_from (extension_gives a) ≡ a
-unfolding extension_gives
-extension_from_lem (extension.Display d) = refl
-extension_from_lem (extension.Copyright c) = refl
-extension_from_lem (extension.Opaque n) = refl
-extension_from_lem (extension.Refused fault) = refl
-
-pub extension_says_lem : OneToOne extension_says
-unfolding extension_says
-extension_says_lem a b e = undone extension_gives extension_from extension_from_lem a b (answer_one (extension_gives a) (extension_gives b) e)
-
--- ── what is said is what is given ──
-
-pub header_given : (body : List ℕ) (a : HeaderAnswer) → header_says a ≡ header_of body → header_gives a ≡ header_result body
-unfolding header_says header_of
-header_given body a e = answer_one (header_gives a) (header_result body) e
-
-pub extension_given : (scope : Scope) (body : List ℕ) (a : ExtensionAnswer) → extension_says a ≡ extension_of scope body → extension_gives a ≡ extension_result scope body
-unfolding extension_says extension_of
-extension_given scope body a e = answer_one (extension_gives a) (extension_result scope body) e

@@ -5,13 +5,6 @@ use Rattle.layout.specs.declared.JudgedField.{JudgedField}
 use Rattle.layout.specs.declared.JudgedField.TheVariants.{Width, Height, Chroma, Precision, Aspect, Rate, Transfer, Matrix, Stereo, CopyrightOwner, CopyrightNumber}
 use Rattle.layout.specs.declared.Fault.{Fault}
 use Rattle.layout.specs.declared.Fault.TheVariants as fault
-use Rattle.bodies.specs.declared.SequenceHeader.{SequenceHeader}
-use Rattle.bodies.specs.declared.DisplayExtension.{DisplayExtension}
-use Rattle.bodies.specs.declared.CopyrightExtension.{CopyrightExtension}
-use Rattle.bodies.specs.declared.HeaderAnswer.{HeaderAnswer}
-use Rattle.bodies.specs.declared.HeaderAnswer.TheVariants as headerAnswer
-use Rattle.bodies.specs.declared.ExtensionAnswer.{ExtensionAnswer}
-use Rattle.bodies.specs.declared.ExtensionAnswer.TheVariants as extensionAnswer
 
 -- ── refusals ──
 
@@ -47,33 +40,3 @@ fault_bit fault.Stuffing = []
 unfoldable pub answer_of : {A : Type 0} → Result A Fault → Outcome A
 answer_of (Ok a) = done a
 answer_of (Err fault) = refused (fault_number fault) (fault_bit fault)
-
--- ── sequence header ──
-
--- what an answer gives: the record, or what is wrong with the body
-unfoldable pub header_gives : HeaderAnswer → Result SequenceHeader Fault
-header_gives (headerAnswer.Header h) = Ok h
-header_gives (headerAnswer.Refused fault) = Err fault
-
--- what it says, in the papers' terms
-unfoldable pub header_says : HeaderAnswer → Outcome SequenceHeader
-header_says answer = answer_of (header_gives answer)
-
--- ── extensions ──
-
--- what an extension body answers: a display or copyright record, or of an opaque extension its number alone
-pub data Extension : Type 0 where
-  display : DisplayExtension → Extension
-  copyright : CopyrightExtension → Extension
-  opaque : ℕ → Extension
-
--- what an answer gives: the record or the number, or what is wrong with the body
-unfoldable pub extension_gives : ExtensionAnswer → Result Extension Fault
-extension_gives (extensionAnswer.Display d) = Ok (display d)
-extension_gives (extensionAnswer.Copyright c) = Ok (copyright c)
-extension_gives (extensionAnswer.Opaque number) = Ok (opaque number)
-extension_gives (extensionAnswer.Refused fault) = Err fault
-
--- what it says, in the papers' terms
-unfoldable pub extension_says : ExtensionAnswer → Outcome Extension
-extension_says answer = answer_of (extension_gives answer)

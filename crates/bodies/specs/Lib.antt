@@ -5,4 +5,3 @@ pub mod Bodies
 pub mod Answers
 pub mod Breaks
 pub mod Reader
-pub mod Inside

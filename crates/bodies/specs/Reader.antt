@@ -10,7 +10,9 @@ use Rattle.layout.specs.declared.Layout.{Layout}
 use Rattle.layout.specs.declared.Layout.TheVariants.{Header, Display, Coloured, Copyright}
 use Rattle.layout.specs.declared.Fault.TheVariants.{Short}
 use Rattle.bodies.specs.Records.{header_record, plain_record, coloured_record, copyright_record}
-use Rattle.bodies.specs.Answers.{answer_of, Extension, display, copyright, opaque}
+use Rattle.bodies.specs.Answers.{answer_of}
+use Rattle.bodies.specs.declared.ExtensionBody.{ExtensionBody}
+use Rattle.bodies.specs.declared.ExtensionBody.TheVariants as extension
 use Rattle.bodies.specs.declared.SequenceHeader.{SequenceHeader}
 use Rattle.bodies.specs.declared.Scope.{Scope}
 use Rattle.bodies.specs.declared.Scope.TheVariants as scope
@@ -38,22 +40,22 @@ header_of body = answer_of (header_result body)
 -- ── extensions ──
 
 -- a display extension where colour is not given
-unfoldable pub plain_of : List ℕ → Reading Extension
+unfoldable pub plain_of : List ℕ → Reading ExtensionBody
 plain_of body = do
   d ← record_of Display plain_record body
-  Ok (display d)
+  Ok (extension.Display d)
 
 -- a display extension where colour is given
-unfoldable pub coloured_of : List ℕ → Reading Extension
+unfoldable pub coloured_of : List ℕ → Reading ExtensionBody
 coloured_of body = do
   d ← record_of Coloured coloured_record body
-  Ok (display d)
+  Ok (extension.Display d)
 
 -- a copyright extension
-unfoldable pub copyright_of : List ℕ → Reading Extension
+unfoldable pub copyright_of : List ℕ → Reading ExtensionBody
 copyright_of body = do
   c ← record_of Copyright copyright_record body
-  Ok (copyright c)
+  Ok (extension.Copyright c)
 
 -- a bit that is there and is 1
 abbrev pub is_one : std.Option ℕ → Bool
@@ -70,7 +72,7 @@ unfoldable pub display_short : List ℕ → Bool
 display_short body = short Display body || (is_one (bit_at (bits_of body) 8) && short Coloured body)
 
 -- a display extension: SHORT, then the layout that colour given says
-unfoldable pub display_of : List ℕ → Reading Extension
+unfoldable pub display_of : List ℕ → Reading ExtensionBody
 display_of body = do
   refuse_if (display_short body) Short
   colour ← read_bit (bit_at (bits_of body) 8)
@@ -81,20 +83,20 @@ abbrev pub number_of : List ℕ → Result ℕ ℕ
 number_of body = read_at (bits_of body) 0 4
 
 -- Number 2 in a group's head is the display extension; after a picture header it is opaque.
-abbrev pub not_copyright : Scope → List ℕ → ℕ → Reading Extension
-not_copyright scope.Head body number = cond (eqb number 2) (display_of body) (Ok (opaque number))
-not_copyright scope.Picture body number = Ok (opaque number)
+abbrev pub not_copyright : Scope → List ℕ → ℕ → Reading ExtensionBody
+not_copyright scope.Head body number = cond (eqb number 2) (display_of body) (Ok (extension.Opaque number))
+not_copyright scope.Picture body number = Ok (extension.Opaque number)
 
 -- Number 4 anywhere is copyright. Any other extension is opaque.
-unfoldable pub by_number : Scope → List ℕ → ℕ → Reading Extension
+unfoldable pub by_number : Scope → List ℕ → ℕ → Reading ExtensionBody
 by_number scope body number = cond (eqb number 4) (copyright_of body) (not_copyright scope body number)
 
 -- an extension by its number; an empty body has none, and is SHORT
-unfoldable pub extension_result : Scope → List ℕ → Reading Extension
+unfoldable pub extension_result : Scope → List ℕ → Reading ExtensionBody
 extension_result scope body = do
   number ← read_value (number_of body)
   by_number scope body number
 
 -- what reading an extension's body answers
-unfoldable pub extension_of : Scope → List ℕ → Outcome Extension
+unfoldable pub extension_of : Scope → List ℕ → Outcome ExtensionBody
 extension_of scope body = answer_of (extension_result scope body)

@@ -1,10 +1,10 @@
 -- Document 01, "Layouts": the record that the values of a layout's fields make.
 -- Marker bits and reserved bits are not recorded.
 use Rattle.std.specs.Prelude.{ℕ, ◌+◌, ◌*◌, List}
+use Rattle.std.specs.Prelude.{None, Some}
 use Rattle.std.proofs.Math.Option.{Option}
 use Rattle.layout.specs.Values.{next, ◌>>=◌, made, copyright_number}
 use Rattle.bodies.specs.declared.SequenceHeader.{SequenceHeader}
-use Rattle.bodies.specs.declared.Colour.TheVariants.{Given, NotGiven}
 use Rattle.bodies.specs.declared.DisplayExtension.{DisplayExtension}
 use Rattle.bodies.specs.declared.CopyrightExtension.{CopyrightExtension}
 
@@ -64,7 +64,7 @@ plain_record = do
   made (record {
     format = format;
     range = range;
-    colour = NotGiven;
+    colour = None;
     width = width;
     height = height;
     stereo = stereo;
@@ -87,7 +87,7 @@ coloured_record = do
   made (record {
     format = format;
     range = range;
-    colour = Given primaries transfer matrix;
+    colour = Some (record { primaries = primaries; transfer = transfer; matrix = matrix });
     width = width;
     height = height;
     stereo = stereo;

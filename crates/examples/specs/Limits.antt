@@ -8,11 +8,11 @@ use Rattle.answers.specs.Missing.{payload_out, missing_in}
 use Rattle.startcode.specs.Prefix.{next_prefix, steps}
 use Rattle.startcode.specs.Kinds.{kind_of}
 use Rattle.startcode.specs.declared.Kind.TheVariants as kind
-use Rattle.bodies.specs.Answers.{Extension, display, copyright, opaque}
+use Rattle.bodies.specs.declared.ExtensionBody.{ExtensionBody}
+use Rattle.bodies.specs.declared.ExtensionBody.TheVariants as extensionBody
 use Rattle.bodies.specs.Reader.{header_of, extension_of}
 use Rattle.bodies.specs.declared.SequenceHeader.{SequenceHeader}
 use Rattle.bodies.specs.declared.Colour.{Colour}
-use Rattle.bodies.specs.declared.Colour.TheVariants as colour
 use Rattle.bodies.specs.declared.Scope.TheVariants.{Head, Picture}
 use Rattle.ratios.specs.Ratios.{numerator, denominator, frame_rate, display_ratio}
 use Rattle.ratios.specs.declared.Fraction.{Fraction}
@@ -177,15 +177,15 @@ coloured_body = body 9 coloured_fields
 abbrev pub copyright_body : List ℕ
 copyright_body = body 12 (copyright_fields 1 0xA5 0x12345 0x23456 0x34567)
 
-abbrev pub colour_numbers : Colour → List ℕ
-colour_numbers (colour.Given primaries transfer matrix) = primaries ∷ transfer ∷ matrix ∷ []
-colour_numbers colour.NotGiven = []
+abbrev pub colour_numbers : Option Colour → List ℕ
+colour_numbers (Some colour) = colour.primaries ∷ colour.transfer ∷ colour.matrix ∷ []
+colour_numbers None = []
 
 -- the number, then the record's numbers; an opaque extension has its number alone
-abbrev pub extension_numbers : Extension → List ℕ
-extension_numbers (display d) = 2 ∷ d.format ∷ d.range ∷ colour_numbers d.colour ++ d.width ∷ d.height ∷ d.stereo ∷ []
-extension_numbers (copyright c) = 4 ∷ c.flag ∷ c.owner ∷ c.original ∷ c.number ∷ []
-extension_numbers (opaque number) = number ∷ []
+abbrev pub extension_numbers : ExtensionBody → List ℕ
+extension_numbers (extensionBody.Display d) = 2 ∷ d.format ∷ d.range ∷ colour_numbers d.colour ++ d.width ∷ d.height ∷ d.stereo ∷ []
+extension_numbers (extensionBody.Copyright c) = 4 ∷ c.flag ∷ c.owner ∷ c.original ∷ c.number ∷ []
+extension_numbers (extensionBody.Opaque number) = number ∷ []
 
 -- in a group's head, and after a picture header
 abbrev pub in_head : List ℕ → Outcome (List ℕ)
@@ -195,13 +195,13 @@ abbrev pub after_picture : List ℕ → Outcome (List ℕ)
 after_picture bytes = map_done extension_numbers (extension_of Picture bytes)
 
 -- with one field changed
-abbrev pub plain_with : ℕ → ℕ → Outcome Extension
+abbrev pub plain_with : ℕ → ℕ → Outcome ExtensionBody
 plain_with field v = extension_of Head (body 6 (changed field v plain_fields))
 
-abbrev pub coloured_with : ℕ → ℕ → Outcome Extension
+abbrev pub coloured_with : ℕ → ℕ → Outcome ExtensionBody
 coloured_with field v = extension_of Head (body 9 (changed field v coloured_fields))
 
-abbrev pub copyright_with : ℕ → ℕ → Outcome Extension
+abbrev pub copyright_with : ℕ → ℕ → Outcome ExtensionBody
 copyright_with field v = extension_of Picture (body 12 (changed field v (copyright_fields 1 0xA5 0x12345 0x23456 0x34567)))
 
 -- by flag, owner and the number's parts
@@ -266,7 +266,7 @@ part_of stream rows i = done (row_body stream rows i)
 
 -- the display extension's numbers, where it is given
 abbrev pub display_given : Option DisplayExtension → List ℕ
-display_given (Some d) = extension_numbers (display d)
+display_given (Some d) = extension_numbers (extensionBody.Display d)
 display_given None = []
 
 -- header and display extension of group g

@@ -15,7 +15,7 @@ ghost use Rattle.filing.specs.Inside.{short_span, unit_or_refusal, Spans, KeptBy
 
 use bodies::Scope;
 use grammar::{Reason, State};
-use startcode::{Kind, UnitKind};
+use startcode::Kind;
 use units::NextUnit;
 
 // A refusal and its offset in the stream.
@@ -137,8 +137,8 @@ fn scope_after(scope: Scope, code: u8) -> Scope
     ensures { result ≡ scope_after scope (kind_of code) }
 {
     match startcode::kind_of(code) {
-        UnitKind::Is(Kind::SequenceHeader) => Scope::Head,
-        UnitKind::Is(Kind::IPicture | Kind::PBPicture) => Scope::Picture,
+        Some(Kind::SequenceHeader) => Scope::Head,
+        Some(Kind::IPicture | Kind::PBPicture) => Scope::Picture,
         _ => scope,
     }
 }

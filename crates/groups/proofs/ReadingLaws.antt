@@ -13,7 +13,9 @@ use Rattle.bits.specs.Lists.{All}
 use Rattle.bits.proofs.ListLaws.{all_map, absent}
 use Rattle.bits.proofs.TestLaws.{by_test}
 use Rattle.startcode.specs.declared.Kind.TheVariants as kind
-use Rattle.bodies.specs.Answers.{answer_of, Extension, display, copyright, opaque}
+use Rattle.bodies.specs.Answers.{answer_of}
+use Rattle.bodies.specs.declared.ExtensionBody.{ExtensionBody}
+use Rattle.bodies.specs.declared.ExtensionBody.TheVariants as extensionBody
 use Rattle.bodies.specs.Extensions.{HasNumber, numbered}
 use Rattle.bodies.specs.Bodies.{DisplayBody, plain, coloured}
 use Rattle.bodies.specs.Reader.{header_of, extension_of}
@@ -70,10 +72,10 @@ display_two body d (plain n c vs o r) = n.bits
 display_two body d (coloured n c vs o r) = n.bits
 
 -- an extension that is no display extension
-shown_other : (o : Outcome Extension) (rest : Option DisplayExtension) → ((d : DisplayExtension) → o ≡ done (display d) → ⊥) → shown o rest ≡ rest
-shown_other (done (display d)) rest n = absurd (n d refl)
-shown_other (done (copyright c)) rest n = refl
-shown_other (done (opaque number)) rest n = refl
+shown_other : (o : Outcome ExtensionBody) (rest : Option DisplayExtension) → ((d : DisplayExtension) → o ≡ done (extensionBody.Display d) → ⊥) → shown o rest ≡ rest
+shown_other (done (extensionBody.Display d)) rest n = absurd (n d refl)
+shown_other (done (extensionBody.Copyright c)) rest n = refl
+shown_other (done (extensionBody.Opaque number)) rest n = refl
 shown_other (refused number carried) rest n = refl
 
 other : (u : StreamUnit) (us : List StreamUnit) → HeadExtra u → ¬ DisplayUnit u → display_in (u ∷ us) ≡ display_in us
@@ -89,7 +91,7 @@ display_unit : (u : StreamUnit) (us : List StreamUnit) (d : DisplayExtension) �
 unfolding display_in
 display_unit u us d h b =
     ap (λ o. in_head o u.body (display_in us)) h.0
-    ∙ ap (λ (o : Outcome Extension). shown o (display_in us)) ((display_iff scope.Head u.body d).1 (refl, b))
+    ∙ ap (λ (o : Outcome ExtensionBody). shown o (display_in us)) ((display_iff scope.Head u.body d).1 (refl, b))
 
 -- none of the head's units is one
 none_shown : (extras tail : List StreamUnit) → display_in tail ≡ None → All HeadExtra extras → All (λ u. ¬ DisplayUnit u) extras → display_in (extras ++ tail) ≡ None

@@ -4,7 +4,8 @@ use Rattle.answers.specs.Answers.{Outcome, done, refused, and_then, NO_ROW}
 use Rattle.startcode.specs.Kinds.{kind_of}
 use Rattle.startcode.specs.declared.Kind.{Kind}
 use Rattle.startcode.specs.declared.Kind.TheVariants as kind
-use Rattle.bodies.specs.Answers.{Extension, display, copyright, opaque}
+use Rattle.bodies.specs.declared.ExtensionBody.{ExtensionBody}
+use Rattle.bodies.specs.declared.ExtensionBody.TheVariants as extensionBody
 use Rattle.bodies.specs.Reader.{header_of, extension_of}
 use Rattle.bodies.specs.declared.Scope.TheVariants as scope
 use Rattle.bodies.specs.declared.SequenceHeader.{SequenceHeader}
@@ -14,10 +15,10 @@ use Rattle.bodies.specs.declared.DisplayExtension.{DisplayExtension}
 use Rattle.groups.specs.Groups.{GroupRecord}
 
 -- Number 2 in a group's head is the display extension; after any other unit of the head the next ones are looked at.
-abbrev pub shown : Outcome Extension → Option DisplayExtension → Option DisplayExtension
-shown (done (display d)) rest = Some d
-shown (done (copyright c)) rest = rest
-shown (done (opaque number)) rest = rest
+abbrev pub shown : Outcome ExtensionBody → Option DisplayExtension → Option DisplayExtension
+shown (done (extensionBody.Display d)) rest = Some d
+shown (done (extensionBody.Copyright c)) rest = rest
+shown (done (extensionBody.Opaque number)) rest = rest
 shown (refused number carried) rest = rest
 
 -- A group's head is what stands before its first picture: B2 and B5.

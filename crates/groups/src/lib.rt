@@ -11,9 +11,9 @@ ghost use Rattle.groups.specs.Reader.{shown, in_head, display_in, group_of, grou
 ghost use Rattle.groups.specs.declared.GroupError.TheVariants.{Refused};
 ghost use Rattle.groups.specs.Inside.{Tells, units_from, Here, Stands};
 
-use bodies::{DisplayExtension, ExtensionAnswer, HeaderAnswer, Scope, SequenceHeader};
+use bodies::{DisplayExtension, ExtensionBody, Scope, SequenceHeader};
 use filing::Refusal;
-use startcode::{Kind, UnitKind};
+use startcode::Kind;
 
 // A group's header record, and the display extension of its head where that is given.
 #[derive(Clone, Copy)]
@@ -59,17 +59,16 @@ enum InHead {
 fn begins_group(code: u8) -> bool
     ensures { result ≡ is_kind Kind.SequenceHeader (kind_of code) }
 {
-    matches!(startcode::kind_of(code), UnitKind::Is(Kind::SequenceHeader))
+    matches!(startcode::kind_of(code), Some(Kind::SequenceHeader))
 }
 
+#[tactic(auto, unfolding(bodies::specs::Reader::extension_of, bodies::specs::Answers::answer_of))]
 fn head_extension(body: &[u8]) -> InHead
     ensures { Tells result (shown (extension_of Scope.Head body.now)) }
 {
     match bodies::extension(body, Scope::Head) {
-        ExtensionAnswer::Display(d) => InHead::Display(d),
-        ExtensionAnswer::Copyright(_) => InHead::Other,
-        ExtensionAnswer::Opaque(_) => InHead::Other,
-        ExtensionAnswer::Refused(_) => InHead::Other,
+        Ok(ExtensionBody::Display(d)) => InHead::Display(d),
+        _ => InHead::Other,
     }
 }
 
@@ -78,8 +77,8 @@ fn in_group_head(code: u8, body: &[u8]) -> InHead
     ensures { Tells result (in_head (kind_of code) body.now) }
 {
     match startcode::kind_of(code) {
-        UnitKind::Is(Kind::UserData) => InHead::Other,
-        UnitKind::Is(Kind::Extension) => head_extension(body),
+        Some(Kind::UserData) => InHead::Other,
+        Some(Kind::Extension) => head_extension(body),
         _ => InHead::Past,
     }
 }
@@ -120,16 +119,17 @@ fn display_from(stream: &[u8], from: usize) -> Option<DisplayExtension>
 }
 
 // The group whose sequence header has this body; its head goes on at an offset.
+#[tactic(auto, unfolding(bodies::specs::Reader::header_of, bodies::specs::Answers::answer_of))]
 fn group_here(stream: &[u8], body: &[u8], from: usize) -> Result<Group, GroupError>
     requires { Here stream.now from }
     ensures { group_says result ≡ group_of (header_of body.now) (display_in (units_from stream.now from)) }
 {
     match bodies::sequence_header(body) {
-        HeaderAnswer::Header(header) => Ok(Group {
+        Ok(header) => Ok(Group {
             header,
             display: display_from(stream, from),
         }),
-        HeaderAnswer::Refused(_) => Err(GroupError::NoRow),
+        Err(_) => Err(GroupError::NoRow),
     }
 }
 

@@ -8,12 +8,12 @@ use lib.Dec.{leb}
 use lib.ListN.{length}
 use Rattle.answers.specs.Answers.{done}
 use Rattle.bits.proofs.TestLaws.{by_test}
-use Rattle.bodies.specs.Answers.{Extension, display, copyright, opaque}
+use Rattle.bodies.specs.declared.ExtensionBody.{ExtensionBody}
+use Rattle.bodies.specs.declared.ExtensionBody.TheVariants as extensionBody
 use Rattle.bodies.specs.declared.SequenceHeader.{SequenceHeader}
 use Rattle.bodies.specs.declared.DisplayExtension.{DisplayExtension}
 use Rattle.bodies.specs.declared.CopyrightExtension.{CopyrightExtension}
 use Rattle.bodies.specs.declared.Colour.{Colour}
-use Rattle.bodies.specs.declared.Colour.TheVariants as colour
 use Rattle.std.proofs.Common.{Option, Some, None}
 use Rattle.ratios.specs.declared.Fraction.{Fraction}
 use Rattle.groups.specs.Groups.{GroupRecord}
@@ -45,22 +45,22 @@ none_counted (Some f) lent = (
 
 -- colour is not given
 abbrev pub Plain : DisplayExtension → Type 0
-Plain d = d.colour ≡ colour.NotGiven
+Plain d = d.colour ≡ None
 
 -- and given
-abbrev pub ColourGiven : Colour → Type 0
-ColourGiven c = (primaries : ℕ) × ((transfer : ℕ) × ((matrix : ℕ) × (c ≡ colour.Given primaries transfer matrix)))
+abbrev pub ColourGiven : Option Colour → Type 0
+ColourGiven c = (primaries : ℕ) × ((transfer : ℕ) × ((matrix : ℕ) × (c ≡ Some (record { primaries = primaries; transfer = transfer; matrix = matrix }))))
 
 abbrev pub Coloured : DisplayExtension → Type 0
 Coloured d = ColourGiven d.colour
 
-no_colour : (c : Colour) → (length (colour_numbers c) ≡ 0) ↔ (c ≡ colour.NotGiven)
-no_colour colour.NotGiven = ((λ e. refl), (λ e. refl))
-no_colour (colour.Given p t m) = ((λ e. absurd (omega arith)), (λ e. let z : ◌≡◌ {A = ℕ} 0 1 = cc in absurd (omega arith)))
+no_colour : (c : Option Colour) → (length (colour_numbers c) ≡ 0) ↔ (c ≡ None)
+no_colour None = ((λ e. refl), (λ e. refl))
+no_colour (Some given) = ((λ e. absurd (omega arith)), (λ e. let z : ◌≡◌ {A = ℕ} 0 1 = cc in absurd (omega arith)))
 
-colour_there : (c : Colour) → (length (colour_numbers c) ≡ 3) ↔ ColourGiven c
-colour_there colour.NotGiven = ((λ e. absurd (omega arith)), (λ w. let e = w.1.1.1 in let z : ◌≡◌ {A = ℕ} 0 1 = cc in absurd (omega arith)))
-colour_there (colour.Given p t m) = ((λ e. (p, (t, (m, refl)))), (λ w. refl))
+colour_there : (c : Option Colour) → (length (colour_numbers c) ≡ 3) ↔ ColourGiven c
+colour_there None = ((λ e. absurd (omega arith)), (λ w. let e = w.1.1.1 in let z : ◌≡◌ {A = ℕ} 0 1 = cc in absurd (omega arith)))
+colour_there (Some given) = ((λ e. (given.primaries, (given.transfer, (given.matrix, refl)))), (λ w. refl))
 
 plain_five : (d : DisplayExtension) → (length (display_numbers d) ≡ 5) ↔ Plain d
 unfolding display_numbers
@@ -106,32 +106,32 @@ module _ (x : GroupRecord) where
 -- ── an extension ──
 
 -- it is a display extension that is so
-abbrev pub Displays : (DisplayExtension → Type 0) → Extension → Type 0
-Displays P y = (d : DisplayExtension) × (y ≡ display d) × P d
+abbrev pub Displays : (DisplayExtension → Type 0) → ExtensionBody → Type 0
+Displays P y = (d : DisplayExtension) × (y ≡ extensionBody.Display d) × P d
 
-extension_shows : (P : DisplayExtension → Type 0) (n : ℕ) → 4 < n → ((d : DisplayExtension) → (length (display_numbers d) ≡ n) ↔ P d) → (y : Extension) → (length (extension_numbers y) ≡ suc n) ↔ Displays P y
+extension_shows : (P : DisplayExtension → Type 0) (n : ℕ) → 4 < n → ((d : DisplayExtension) → (length (display_numbers d) ≡ n) ↔ P d) → (y : ExtensionBody) → (length (extension_numbers y) ≡ suc n) ↔ Displays P y
 unfolding copyright_numbers
-extension_shows P n more exactly (display d) = (
+extension_shows P n more exactly (extensionBody.Display d) = (
   (λ e. (d, refl, (exactly d).0 (omega arith))),
   (λ w. let e = w.1 in let q : w.0 ≡ d = cc in ap suc ((exactly d).1 (subst P q w.2))),
 )
-extension_shows P n more exactly (copyright c) = ((λ e. absurd (omega arith)), (λ w. let e = w.1 in let z : ◌≡◌ {A = ℕ} 0 1 = cc in absurd (omega arith)))
-extension_shows P n more exactly (opaque k) = ((λ e. absurd (omega arith)), (λ w. let e = w.1 in let z : ◌≡◌ {A = ℕ} 0 1 = cc in absurd (omega arith)))
+extension_shows P n more exactly (extensionBody.Copyright c) = ((λ e. absurd (omega arith)), (λ w. let e = w.1 in let z : ◌≡◌ {A = ℕ} 0 1 = cc in absurd (omega arith)))
+extension_shows P n more exactly (extensionBody.Opaque k) = ((λ e. absurd (omega arith)), (λ w. let e = w.1 in let z : ◌≡◌ {A = ℕ} 0 1 = cc in absurd (omega arith)))
 
-pub extension_plain : (y : Extension) → (length (extension_numbers y) ≡ 6) ↔ Displays Plain y
+pub extension_plain : (y : ExtensionBody) → (length (extension_numbers y) ≡ 6) ↔ Displays Plain y
 extension_plain y = extension_shows Plain 5 (omega arith) plain_five y
 
-pub extension_coloured : (y : Extension) → (length (extension_numbers y) ≡ 9) ↔ Displays Coloured y
+pub extension_coloured : (y : ExtensionBody) → (length (extension_numbers y) ≡ 9) ↔ Displays Coloured y
 extension_coloured y = extension_shows Coloured 8 (omega arith) coloured_eight y
 
-pub extension_copyright : (y : Extension) → (length (extension_numbers y) ≡ 5) ↔ ((c : CopyrightExtension) × (y ≡ copyright c))
+pub extension_copyright : (y : ExtensionBody) → (length (extension_numbers y) ≡ 5) ↔ ((c : CopyrightExtension) × (y ≡ extensionBody.Copyright c))
 unfolding display_numbers copyright_numbers
-extension_copyright (display d) = ((λ e. absurd (omega arith)), (λ w. let e = w.1 in let z : ◌≡◌ {A = ℕ} 0 1 = cc in absurd (omega arith)))
-extension_copyright (copyright c) = ((λ e. (c, refl)), (λ w. refl))
-extension_copyright (opaque k) = ((λ e. absurd (omega arith)), (λ w. let e = w.1 in let z : ◌≡◌ {A = ℕ} 0 1 = cc in absurd (omega arith)))
+extension_copyright (extensionBody.Display d) = ((λ e. absurd (omega arith)), (λ w. let e = w.1 in let z : ◌≡◌ {A = ℕ} 0 1 = cc in absurd (omega arith)))
+extension_copyright (extensionBody.Copyright c) = ((λ e. (c, refl)), (λ w. refl))
+extension_copyright (extensionBody.Opaque k) = ((λ e. absurd (omega arith)), (λ w. let e = w.1 in let z : ◌≡◌ {A = ℕ} 0 1 = cc in absurd (omega arith)))
 
-pub extension_opaque : (y : Extension) → (length (extension_numbers y) ≡ 1) ↔ ((number : ℕ) × (y ≡ opaque number))
+pub extension_opaque : (y : ExtensionBody) → (length (extension_numbers y) ≡ 1) ↔ ((number : ℕ) × (y ≡ extensionBody.Opaque number))
 unfolding display_numbers copyright_numbers
-extension_opaque (display d) = ((λ e. absurd (omega arith)), (λ w. let e = w.1 in let z : ◌≡◌ {A = ℕ} 0 1 = cc in absurd (omega arith)))
-extension_opaque (copyright c) = ((λ e. absurd (omega arith)), (λ w. let e = w.1 in let z : ◌≡◌ {A = ℕ} 0 1 = cc in absurd (omega arith)))
-extension_opaque (opaque k) = ((λ e. (k, refl)), (λ w. refl))
+extension_opaque (extensionBody.Display d) = ((λ e. absurd (omega arith)), (λ w. let e = w.1 in let z : ◌≡◌ {A = ℕ} 0 1 = cc in absurd (omega arith)))
+extension_opaque (extensionBody.Copyright c) = ((λ e. absurd (omega arith)), (λ w. let e = w.1 in let z : ◌≡◌ {A = ℕ} 0 1 = cc in absurd (omega arith)))
+extension_opaque (extensionBody.Opaque k) = ((λ e. (k, refl)), (λ w. refl))

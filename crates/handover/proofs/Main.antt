@@ -6,7 +6,8 @@ use mathlib.Core.List.{List}
 use lib.ListN.{length}
 use Rattle.answers.specs.Answers.{done, map_done}
 use Rattle.layout.specs.declared.Layout.TheVariants.{Header}
-use Rattle.bodies.specs.Answers.{Extension, copyright, opaque}
+use Rattle.bodies.specs.declared.ExtensionBody.{ExtensionBody}
+use Rattle.bodies.specs.declared.ExtensionBody.TheVariants as extensionBody
 use Rattle.bodies.specs.Reader.{header_of, extension_of}
 use Rattle.bodies.specs.declared.Scope.{Scope}
 use Rattle.bodies.specs.declared.CopyrightExtension.{CopyrightExtension}
@@ -46,11 +47,11 @@ module _ (x : GroupRecord) (lent : List ℕ) (room : length (group_numbers x) �
 
 -- An extension, where there is room: the count is 1 exactly when it is opaque, 5 exactly when it is copyright, 6 exactly when it is
 -- display without colour, and 9 exactly when it is display with colour.
-module _ (y : Extension) (lent : List ℕ) (room : length (extension_numbers y) ≤ length lent) where
-  pub extension_opaque : ((answered (done (extension_numbers y)) lent).count ≡ 1) ↔ ((number : ℕ) × (y ≡ opaque number))
+module _ (y : ExtensionBody) (lent : List ℕ) (room : length (extension_numbers y) ≤ length lent) where
+  pub extension_opaque : ((answered (done (extension_numbers y)) lent).count ≡ 1) ↔ ((number : ℕ) × (y ≡ extensionBody.Opaque number))
   extension_opaque = count_is (extension_numbers y) lent room (counts.extension_opaque y)
 
-  pub extension_copyright : ((answered (done (extension_numbers y)) lent).count ≡ 5) ↔ ((c : CopyrightExtension) × (y ≡ copyright c))
+  pub extension_copyright : ((answered (done (extension_numbers y)) lent).count ≡ 5) ↔ ((c : CopyrightExtension) × (y ≡ extensionBody.Copyright c))
   extension_copyright = count_is (extension_numbers y) lent room (counts.extension_copyright y)
 
   pub extension_plain : ((answered (done (extension_numbers y)) lent).count ≡ 6) ↔ Displays Plain y

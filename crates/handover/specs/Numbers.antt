@@ -1,9 +1,9 @@
 -- The numbers of each record in order, as they are handed over. What is not given has no numbers.
 use Rattle.std.specs.Prelude.{ℕ, List, [], ◌∷◌, ◌++◌, Option, Some, None, Bool, true, false}
-use Rattle.bodies.specs.Answers.{Extension, display, copyright, opaque}
+use Rattle.bodies.specs.declared.ExtensionBody.{ExtensionBody}
+use Rattle.bodies.specs.declared.ExtensionBody.TheVariants as extensionBody
 use Rattle.bodies.specs.declared.SequenceHeader.{SequenceHeader}
 use Rattle.bodies.specs.declared.Colour.{Colour}
-use Rattle.bodies.specs.declared.Colour.TheVariants as colour
 use Rattle.bodies.specs.declared.DisplayExtension.{DisplayExtension}
 use Rattle.bodies.specs.declared.CopyrightExtension.{CopyrightExtension}
 use Rattle.bodies.specs.declared.Scope.{Scope}
@@ -32,9 +32,9 @@ header_numbers h =
     ∷ macroblock_rows h
     ∷ []
 
-abbrev pub colour_numbers : Colour → List ℕ
-colour_numbers (colour.Given primaries transfer matrix) = primaries ∷ transfer ∷ matrix ∷ []
-colour_numbers colour.NotGiven = []
+abbrev pub colour_numbers : Option Colour → List ℕ
+colour_numbers (Some colour) = colour.primaries ∷ colour.transfer ∷ colour.matrix ∷ []
+colour_numbers None = []
 
 -- a display extension, with its colour where that is given
 unfoldable pub display_numbers : DisplayExtension → List ℕ
@@ -55,10 +55,10 @@ scope_for true = scope.Head
 scope_for false = scope.Picture
 
 -- the extension's number, and what it says where it is not opaque
-abbrev pub extension_numbers : Extension → List ℕ
-extension_numbers (display d) = 2 ∷ display_numbers d
-extension_numbers (copyright c) = 4 ∷ copyright_numbers c
-extension_numbers (opaque number) = number ∷ []
+abbrev pub extension_numbers : ExtensionBody → List ℕ
+extension_numbers (extensionBody.Display d) = 2 ∷ display_numbers d
+extension_numbers (extensionBody.Copyright c) = 4 ∷ copyright_numbers c
+extension_numbers (extensionBody.Opaque number) = number ∷ []
 
 -- ── a group ──
 

@@ -10,10 +10,7 @@ ghost use Rattle.handover.specs.Answers.{over, answered, after};
 ghost use Rattle.handover.specs.Inside.{Handed};
 ghost use Rattle.handover.specs.Numbers.{header_numbers, display_numbers, copyright_numbers, ratio_numbers, scope_for, extension_numbers, shown_numbers, group_numbers};
 
-use bodies::{
-    Colour, CopyrightExtension, DisplayExtension, ExtensionAnswer, HeaderAnswer, Scope,
-    SequenceHeader,
-};
+use bodies::{CopyrightExtension, DisplayExtension, ExtensionBody, Scope, SequenceHeader};
 use groups::GroupError;
 use ratios::Fraction;
 use statuses::Answer;
@@ -46,16 +43,22 @@ fn hand_display(values: &[u64], d: DisplayExtension, numbers: &mut [u64]) -> Ans
     requires { length values.now ≤ 14 }
     ensures { Handed result numbers.new (done (values.now ++ display_numbers d)) numbers.old }
 {
-    let colour = d.colour;
-    match colour {
-        Colour::Given(primaries, transfer, matrix) => {
+    match d.colour {
+        Some(colour) => {
             let shown = [
-                d.format, d.range, d.width, d.height, d.stereo, primaries, transfer, matrix,
+                d.format,
+                d.range,
+                d.width,
+                d.height,
+                d.stereo,
+                colour.primaries,
+                colour.transfer,
+                colour.matrix,
             ]
             .map(u64::from);
             hand_both(values, &shown, numbers)
         }
-        Colour::NotGiven => {
+        None => {
             let shown = [d.format, d.range, d.width, d.height, d.stereo].map(u64::from);
             hand_both(values, &shown, numbers)
         }
@@ -135,8 +138,8 @@ pub fn sequence_header(body: &[u8], numbers: &mut [u64]) -> Answer
     ensures numbers { numbers.new ≡ after (map_done header_numbers (reader.header_of body.now)) numbers.old }
 {
     match bodies::sequence_header(body) {
-        HeaderAnswer::Header(h) => hand_group(h, None, numbers),
-        HeaderAnswer::Refused(why) => statuses::refused_body(why),
+        Ok(h) => hand_group(h, None, numbers),
+        Err(why) => statuses::refused_body(why),
     }
 }
 
@@ -152,10 +155,10 @@ pub fn extension(body: &[u8], head: bool, numbers: &mut [u64]) -> Answer
     ensures numbers { numbers.new ≡ after (map_done extension_numbers (reader.extension_of (scope_for head) body.now)) numbers.old }
 {
     match bodies::extension(body, scope_for(head)) {
-        ExtensionAnswer::Display(d) => hand_display(&[2], d, numbers),
-        ExtensionAnswer::Copyright(c) => hand_copyright(c, numbers),
-        ExtensionAnswer::Opaque(number) => hand_over(&[u64::from(number)], numbers),
-        ExtensionAnswer::Refused(why) => statuses::refused_body(why),
+        Ok(ExtensionBody::Display(d)) => hand_display(&[2], d, numbers),
+        Ok(ExtensionBody::Copyright(c)) => hand_copyright(c, numbers),
+        Ok(ExtensionBody::Opaque(number)) => hand_over(&[u64::from(number)], numbers),
+        Err(why) => statuses::refused_body(why),
     }
 }
 

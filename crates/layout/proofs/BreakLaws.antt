@@ -19,7 +19,7 @@ use Rattle.layout.specs.Layouts.{width_of, rule_of, Allowed, Keeps, Wrong, field
 use Rattle.layout.specs.Values.{Ownership, ownership}
 use Rattle.layout.specs.Obeys.{Fits, AllAllowed, written}
 use Rattle.layout.specs.Breaks.{Holds, FirstWrong, Disowned, unflagged, unowned, BreaksAcross, Breaks, short, wrong, across, ended}
-use Rattle.layout.specs.Reader.{allows, ruled, Reading, ◌>>◌, refuse_if, both, values_of, judge, owner_rules, owned_by, cross, judged, stuffing, reading}
+use Rattle.layout.specs.Reader.{Verdict, allows, ruled, Reading, ◌>>◌, refuse_if, both, values_of, judge, owner_rules, owned_by, cross, judged, stuffing, reading}
 use Rattle.answers.specs.Results.{◌>>=◌}
 use Rattle.layout.specs.Reader as reader
 use Rattle.layout.specs.declared.JudgedField.TheVariants.{CopyrightOwner, CopyrightNumber}
@@ -31,8 +31,6 @@ use Rattle.layout.specs.declared.Layout.{Layout}
 use Rattle.layout.specs.declared.Layout.TheVariants.{Header, Display, Coloured, Copyright}
 use Rattle.layout.specs.declared.Fault.{Fault}
 use Rattle.layout.specs.declared.Fault.TheVariants as fault
-use Rattle.layout.specs.declared.Verdict.{Verdict}
-use Rattle.layout.specs.declared.Verdict.TheVariants.{Fine, Faulty}
 use Rattle.layout.proofs.LayoutLaws.{table, fits_length, spelled, owner_begins, number_begins, owner_at, number_at}
 use Rattle.layout.proofs.ReadingLaws.{values_first}
 use Rattle.layout.proofs.JudgeLaws.{checked, reading_short, reading_long}
@@ -72,23 +70,20 @@ held_reading layout body vs end h = reading_long layout body h.long ∙ ap (chec
 
 -- ── verdicts ──
 
-then_bad : {A : Type 0} (v : Verdict) (r : Reading A) (why : Fault) → v ≡ Faulty why → (v >> r) ≡ Err why
+then_bad : {A : Type 0} (v : Verdict) (r : Reading A) (why : Fault) → v ≡ Err why → (v >> r) ≡ Err why
 then_bad v r why e = rw e
 
-faulty_same : (a b : Fault) → Faulty a ≡ Faulty b → a ≡ b
-faulty_same a b e = cc
-
-if_same : (t : Bool) (a why : Fault) → refuse_if t a ≡ Faulty why → (t ≡ true) × (why ≡ a)
-if_same true a why e = (refl, sym (faulty_same a why e))
+if_same : (t : Bool) (a why : Fault) → refuse_if t a ≡ Err why → (t ≡ true) × (why ≡ a)
+if_same true a why e = (refl, sym (err_same e))
 if_same false a why e = let z : ◌≡◌ {A = ℕ} 0 1 = cc in absurd (omega arith)
 
-both_split : {P : Type 0} (v w : Verdict) (why : Fault) → both v w ≡ Faulty why → (v ≡ Faulty why → P) → (v ≡ Fine → w ≡ Faulty why → P) → P
-both_split Fine w why e f g = g refl e
-both_split (Faulty a) w why e f g = f e
+both_split : {P : Type 0} (v w : Verdict) (why : Fault) → both v w ≡ Err why → (v ≡ Err why → P) → (v ≡ Ok tt → w ≡ Err why → P) → P
+both_split (Ok tt) w why e f g = g refl e
+both_split (Err a) w why e f g = f e
 
 -- ── a rule that is broken ──
 
-wrong_if : (r : Rule) (v at : ℕ) (why : Fault) → ruled r v at ≡ Faulty why → Wrong r v at why
+wrong_if : (r : Rule) (v at : ℕ) (why : Fault) → ruled r v at ≡ Err why → Wrong r v at why
 unfolding ruled
 wrong_if rule.Any v at why e = let z : ◌≡◌ {A = ℕ} 0 1 = cc in absurd (omega arith)
 wrong_if rule.Set v at why e = let r = if_same (not (eqb v 1)) (fault.Marker at) why e in (eqb-false v 1 (not-true _ r.0), r.1)
@@ -99,11 +94,11 @@ wrong_if (rule.Judged field values) v at why e =
 not_allowed : (values : Values) (v : ℕ) → (Allowed values v → ⊥) → allows values v ≡ false
 not_allowed values v n = by_test (allows values v) (λ t. absurd (n (allowed_if values v t))) (λ e. e)
 
-if_wrong : (r : Rule) (v at : ℕ) (why : Fault) → Wrong r v at why → ruled r v at ≡ Faulty why
+if_wrong : (r : Rule) (v at : ℕ) (why : Fault) → Wrong r v at why → ruled r v at ≡ Err why
 unfolding ruled
 if_wrong rule.Any v at why h = absurd h
-if_wrong rule.Set v at why h = ap (λ (t : Bool). refuse_if (not t) (fault.Marker at)) (ne_eqb v 1 h.0) ∙ ap Faulty (sym h.1)
-if_wrong (rule.Judged field values) v at why h = ap (λ (t : Bool). refuse_if (not t) (fault.Value field at)) (not_allowed values v h.0) ∙ ap Faulty (sym h.1)
+if_wrong rule.Set v at why h = ap (λ (t : Bool). refuse_if (not t) (fault.Marker at)) (ne_eqb v 1 h.0) ∙ ap Err (sym h.1)
+if_wrong (rule.Judged field values) v at why h = ap (λ (t : Bool). refuse_if (not t) (fault.Value field at)) (not_allowed values v h.0) ∙ ap Err (sym h.1)
 
 -- the same at a bit that is written otherwise
 wrong_at : (r : Rule) (v : ℕ) (why : Fault) {a b : ℕ} → a ≡ b → Wrong r v a why → Wrong r v b why
@@ -144,7 +139,7 @@ here f fs at v vs why h =
       broken = wrong_at (rule_of f) v why (let e : at ≡ at + 0 = omega arith in e) h;
     }
 
-judge_first : (fs : List Field) (at : ℕ) (vs : List ℕ) (why : Fault) → Fits fs vs → judge fs at vs ≡ Faulty why → FirstWrong fs at vs why
+judge_first : (fs : List Field) (at : ℕ) (vs : List ℕ) (why : Fault) → Fits fs vs → judge fs at vs ≡ Err why → FirstWrong fs at vs why
 unfolding judge Fits
 judge_first [] at [] why h e = let z : ◌≡◌ {A = ℕ} 0 1 = cc in absurd (omega arith)
 judge_first [] at (v ∷ vs) why h e = absurd h
@@ -155,7 +150,7 @@ judge_first (f ∷ fs) at (v ∷ vs) why h e =
     (λ k j. one_more f fs at v vs why (kept_if (rule_of f) v at k) (judge_first fs (at + width_of f) vs why h.1 j))
 
 first_judge : (before : List Field) (field : Field) (after : List Field) (at : ℕ) (earlier : List ℕ) (value : ℕ) (later : List ℕ) (why : Fault) →
-    AllAllowed before earlier → Wrong (rule_of field) value (at + bit_count before) why → judge (before ++ (field ∷ after)) at (earlier ++ (value ∷ later)) ≡ Faulty why
+    AllAllowed before earlier → Wrong (rule_of field) value (at + bit_count before) why → judge (before ++ (field ∷ after)) at (earlier ++ (value ∷ later)) ≡ Err why
 unfolding judge AllAllowed
 first_judge [] field after at [] value later why h n =
     let e : at + 0 ≡ at = omega arith in
@@ -167,7 +162,7 @@ first_judge (f ∷ fs) field after at (v ∷ vs) value later why h n =
     ap (λ (x : Verdict). both x (judge (fs ++ (field ∷ after)) (at + width_of f) (vs ++ (value ∷ later)))) (if_kept (rule_of f) v at h.0)
     ∙ first_judge fs field after (at + width_of f) vs value later why h.1 (wrong_at (rule_of field) value why e n)
 
-wrong_judge : (fs : List Field) (at : ℕ) (vs : List ℕ) (why : Fault) → FirstWrong fs at vs why → judge fs at vs ≡ Faulty why
+wrong_judge : (fs : List Field) (at : ℕ) (vs : List ℕ) (why : Fault) → FirstWrong fs at vs why → judge fs at vs ≡ Err why
 wrong_judge fs at vs why w =
     ap (λ (l : List Field). judge l at vs) w.all_fields
     ∙ ap (judge (w.before ++ (w.field ∷ w.after)) at) w.all_values
@@ -175,7 +170,7 @@ wrong_judge fs at vs why w =
 
 -- ── the rules across fields ──
 
-disowned : (c : Ownership) (why : Fault) → owner_rules c ≡ Faulty why → Disowned c why
+disowned : (c : Ownership) (why : Fault) → owner_rules c ≡ Err why → Disowned c why
 disowned c why e =
     by_test (eqb c.owner 0)
     (λ t.
@@ -187,12 +182,12 @@ disowned c why e =
     let r = if_same (eqb c.flag 0) (fault.Value CopyrightOwner 5) why (sym (owned_rules c o refl) ∙ e) in
     unflagged (eqb-true c.flag 0 r.0) o 5 owner_begins r.1)
 
-disowned_rules : (c : Ownership) (why : Fault) → Disowned c why → owner_rules c ≡ Faulty why
-disowned_rules c why (unflagged f o at b e) = owned_rules c o (eq-eqb c.flag 0 f) ∙ ap (λ (k : ℕ). Faulty (fault.Value CopyrightOwner k)) (sym (owner_at at b)) ∙ ap Faulty (sym e)
-disowned_rules c why (unowned o n at b e) = unowned_rules c o (ne_eqb c.number 0 n) ∙ ap (λ (k : ℕ). Faulty (fault.Value CopyrightNumber k)) (sym (number_at at b)) ∙ ap Faulty (sym e)
+disowned_rules : (c : Ownership) (why : Fault) → Disowned c why → owner_rules c ≡ Err why
+disowned_rules c why (unflagged f o at b e) = owned_rules c o (eq-eqb c.flag 0 f) ∙ ap (λ (k : ℕ). Err (fault.Value CopyrightOwner k)) (sym (owner_at at b)) ∙ ap Err (sym e)
+disowned_rules c why (unowned o n at b e) = unowned_rules c o (ne_eqb c.number 0 n) ∙ ap (λ (k : ℕ). Err (fault.Value CopyrightNumber k)) (sym (number_at at b)) ∙ ap Err (sym e)
 
 -- the record is there, since there are as many values as fields
-across_record : (vs : List ℕ) (o : Option Ownership) (why : Fault) → ownership vs ≡ o → owned_by o ≡ Faulty why → (ownership vs ≡ none → ⊥) →
+across_record : (vs : List ℕ) (o : Option Ownership) (why : Fault) → ownership vs ≡ o → owned_by o ≡ Err why → (ownership vs ≡ none → ⊥) →
     (c : Ownership) × (ownership vs ≡ some c) × Disowned c why
 across_record vs none why e f n = absurd (n e)
 across_record vs (some c) why e f n = (c, e, disowned c why f)
@@ -201,14 +196,14 @@ record_there : (vs : List ℕ) → length vs ≡ 11 → ownership vs ≡ none �
 unfolding ownership
 record_there vs h e = let z : ◌≡◌ {A = ℕ} 0 1 = cc (sym (ap ownership (spelled 11 vs h)) ∙ e) in omega arith
 
-cross_broken : (layout : Layout) (vs : List ℕ) (why : Fault) → Fits (fields layout) vs → cross layout vs ≡ Faulty why → BreaksAcross layout vs why
+cross_broken : (layout : Layout) (vs : List ℕ) (why : Fault) → Fits (fields layout) vs → cross layout vs ≡ Err why → BreaksAcross layout vs why
 unfolding cross BreaksAcross fields
 cross_broken Header vs why h e = let z : ◌≡◌ {A = ℕ} 0 1 = cc in omega arith
 cross_broken Display vs why h e = let z : ◌≡◌ {A = ℕ} 0 1 = cc in omega arith
 cross_broken Coloured vs why h e = let z : ◌≡◌ {A = ℕ} 0 1 = cc in omega arith
 cross_broken Copyright vs why h e = across_record vs (ownership vs) why refl e (record_there vs (fits_length (fields Copyright) vs h))
 
-broken_cross : (layout : Layout) (vs : List ℕ) (why : Fault) → BreaksAcross layout vs why → cross layout vs ≡ Faulty why
+broken_cross : (layout : Layout) (vs : List ℕ) (why : Fault) → BreaksAcross layout vs why → cross layout vs ≡ Err why
 unfolding cross BreaksAcross
 broken_cross Header vs why h = absurd h
 broken_cross Display vs why h = absurd h
@@ -217,9 +212,9 @@ broken_cross Copyright vs why h = ap owned_by h.1 ∙ disowned_rules h.0 why h.2
 
 -- ── the whole ──
 
-then_split : {A P : Type 0} (v : Verdict) (r : Reading A) (why : Fault) → (v >> r) ≡ Err why → (v ≡ Faulty why → P) → (v ≡ Fine → r ≡ Err why → P) → P
-then_split Fine r why e f g = g refl e
-then_split {A} (Faulty a) r why e f g = f (ap Faulty (err_same {A = A} e))
+then_split : {A P : Type 0} (v : Verdict) (r : Reading A) (why : Fault) → (v >> r) ≡ Err why → (v ≡ Err why → P) → (v ≡ Ok tt → r ≡ Err why → P) → P
+then_split (Ok tt) r why e f g = g refl e
+then_split {A} (Err a) r why e f g = f (ap Err (err_same {A = A} e))
 
 pub breaks_if : (layout : Layout) (body : List ℕ) (why : Fault) → reading layout body ≡ Err why → Breaks layout body why
 unfolding judged reader.ended
@@ -231,7 +226,7 @@ breaks_if layout body why e =
     let vs = h.0 in
     let end = drop (bit_count (fields layout)) (bits_of body) in
     let first = judge (fields layout) 0 vs in
-    let fine : first ≡ Fine → AllAllowed (fields layout) vs = judge_fine (fields layout) 0 vs h.1.fits in
+    let fine : first ≡ Ok tt → AllAllowed (fields layout) vs = judge_fine (fields layout) 0 vs h.1.fits in
     then_split (judged layout vs) _ why (sym (held_reading layout body vs end h.1) ∙ e)
     (λ f.
     both_split first (cross layout vs) why f
@@ -258,7 +253,7 @@ if_breaks layout body why (ended vs end h a x n e) =
     ap stuffing (held_end layout body vs end h) ∙ by_test (stuffing end) (λ t. let z = stuffing_is end t in absurd (n z.0 z.1)) (λ f. f) in
     held_reading layout body vs end h
     ∙ fine_then (judged layout vs) _ (ap (λ (v : Verdict). both v (cross layout vs)) (fine_judge (fields layout) 0 vs a) ∙ fine_cross layout vs x)
-    ∙ then_bad (reader.ended layout body) (Ok vs) why (ap (λ (t : Bool). refuse_if (not t) fault.Stuffing) s ∙ ap Faulty (sym e))
+    ∙ then_bad (reader.ended layout body) (Ok vs) why (ap (λ (t : Bool). refuse_if (not t) fault.Stuffing) s ∙ ap Err (sym e))
 
 -- ── SHORT ──
 

@@ -1,20 +1,17 @@
 -- A body's verdict, in its parts.
 use Rattle.std.proofs.Common.{Ok, Err}
 use Prim.Native.Nat.{ℕ, ◌*◌, ◌≤◌, ◌<◌}
-use mathlib.Core.Path.{◌≡◌, refl}
+use mathlib.Core.Path.{◌≡◌, refl, ap, ◌∙◌}
 use mathlib.Core.List.{List}
 use mathlib.Core.Bool.{Bool, not}
 use borrow.Author.Tests.{lt-ltb, le-ltb}
 use lib.ListN.{length, drop}
 use Rattle.bits.specs.Bits.{bits_of}
 use Rattle.layout.specs.Layouts.{fields, bit_count, least_bytes}
-use Rattle.layout.specs.Reader.{Reading, ◌>>◌, refuse_if, both, values_of, judged, stuffing, ended, reading}
+use Rattle.layout.specs.Reader.{Verdict, Reading, ◌>>◌, refuse_if, both, values_of, cross, judged, stuffing, ended, reading}
 use Rattle.answers.specs.Results.{◌>>=◌}
-use Rattle.layout.specs.Answers.{verdict_says}
 use Rattle.layout.specs.declared.Layout.{Layout}
 use Rattle.layout.specs.declared.Fault.TheVariants.{Short, Stuffing}
-use Rattle.layout.specs.declared.Verdict.{Verdict}
-use Rattle.layout.specs.declared.Verdict.TheVariants.{Fine, Faulty}
 
 -- ── the end ──
 
@@ -22,6 +19,11 @@ pub ended_by : (layout : Layout) (body : List ℕ) (k : ℕ) (t : Bool) → k * 
     ended layout body ≡ refuse_if (not t) Stuffing
 unfolding ended
 ended_by layout body k t e s = rw (← e, ← s)
+
+-- no rule across fields is broken: the end decides
+pub end_decides : (layout : Layout) (body vs : List ℕ) (k : ℕ) (t : Bool) → cross layout vs ≡ Ok tt → k * 8 ≡ bit_count (fields layout) → t ≡ stuffing (drop (k * 8) (bits_of body)) →
+    both (cross layout vs) (ended layout body) ≡ refuse_if (not t) Stuffing
+end_decides layout body vs k t f e s = ap (λ (v : Verdict). both v (ended layout body)) f ∙ ended_by layout body k t e s
 
 -- ── the whole ──
 
@@ -37,7 +39,6 @@ pub reading_long : (layout : Layout) (body : List ℕ) → least_bytes layout �
 unfolding reading
 reading_long layout body h = rw (le-ltb _ _ h)
 
-pub both_says : (v w : Verdict) (vs : List ℕ) → verdict_says (both v w) vs ≡ (v >> (w >> Ok vs))
-both_says Fine Fine vs = refl
-both_says Fine (Faulty fault) vs = refl
-both_says (Faulty fault) w vs = refl
+pub both_says : (v w : Verdict) (vs : List ℕ) → (both v w >> Ok vs) ≡ (v >> (w >> Ok vs))
+both_says (Ok fine) w vs = refl
+both_says (Err fault) w vs = refl

@@ -1,6 +1,6 @@
 -- What holds of the four layouts, and of fields and their values.
 use Prim.Native.Nat.{ℕ, zero, suc, ◌+◌, ◌*◌, ◌^◌, ◌≤◌, ◌<◌}
-use mathlib.Core.Path.{◌≡◌, refl, sym, ap, ◌∙◌, subst}
+use mathlib.Core.Path.{◌≡◌, refl, ap, ◌∙◌}
 use mathlib.Core.Logic.{◌≢◌}
 use mathlib.Core.List.{List, [], ◌∷◌, ◌++◌}
 use native.Mathlib.Omega.{arith}
@@ -30,24 +30,6 @@ table Header = record { few = omega arith; small = omega arith; whole = refl; na
 table Display = record { few = omega arith; small = omega arith; whole = refl; narrow = omega arith }
 table Coloured = record { few = omega arith; small = omega arith; whole = refl; narrow = omega arith }
 table Copyright = record { few = omega arith; small = omega arith; whole = refl; narrow = omega arith }
-
--- ── a table of fields, arm by arm ──
-
--- the field of an arm stands at its index
-pub arm : (fs : List Field) (i k : ℕ) (f : Field) → drop k fs ≡ f ∷ drop (k + 1) fs → i ≡ k → drop i fs ≡ f ∷ drop (i + 1) fs
-arm fs i k f e h = subst (λ (j : ℕ). drop j fs ≡ f ∷ drop (j + 1) fs) (sym h) e
-
--- none of the arms before
-abbrev pub NoneBelow : ℕ → ℕ → Type 0
-NoneBelow zero i = Unit {0}
-NoneBelow (suc n) i = NoneBelow n i × (i ≡ n → ⊥)
-
-none_below : (n i : ℕ) → NoneBelow n i → n ≤ i
-none_below zero i h = omega arith
-none_below (suc n) i h = let k = none_below n i h.0 in let e = h.1 in omega arith
-
-pub last_arm : (fs : List Field) (i k : ℕ) (f : Field) → drop k fs ≡ f ∷ drop (k + 1) fs → NoneBelow k i → i < k + 1 → drop i fs ≡ f ∷ drop (i + 1) fs
-last_arm fs i k f e n h = let b = none_below k i n in arm fs i k f e (omega arith)
 
 -- ── fields in order ──
 

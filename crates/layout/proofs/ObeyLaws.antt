@@ -1,5 +1,5 @@
 -- Reading gives values exactly where the body obeys its layout with them.
-use Rattle.std.proofs.Common.{Ok}
+use Rattle.std.proofs.Common.{Ok, Err}
 use Prim.Native.Nat.{ℕ, ◌+◌, ◌*◌, ◌^◌, ◌<◌}
 use mathlib.Core.Path.{◌≡◌, refl, sym, ap, ◌∙◌, subst}
 use mathlib.Core.Logic.{◌↔◌}
@@ -20,7 +20,7 @@ use Rattle.bits.proofs.Main.{read_exactly}
 use Rattle.layout.specs.Layouts.{width_of, rule_of, Allowed, Keeps, fields, bit_count}
 use Rattle.layout.specs.Values.{Ownership, ownership}
 use Rattle.layout.specs.Obeys.{Fits, AllAllowed, Owned, Crossed, written, Obeys}
-use Rattle.layout.specs.Reader.{allows, ruled, Reading, ◌>>◌, refuse_if, both, read_value, short, values_of, judge, owner_rules, owned_by, cross, judged, all_zero, stuffing, ended, reading}
+use Rattle.layout.specs.Reader.{Verdict, allows, ruled, Reading, ◌>>◌, refuse_if, both, read_value, short, values_of, judge, owner_rules, owned_by, cross, judged, all_zero, stuffing, ended, reading}
 use Rattle.answers.specs.Results.{◌>>=◌}
 use Rattle.layout.specs.declared.Values.{Values}
 use Rattle.layout.specs.declared.Values.TheVariants.{Only, But, Within, WithinBut}
@@ -32,33 +32,31 @@ use Rattle.layout.specs.declared.Layout.{Layout}
 use Rattle.layout.specs.declared.Layout.TheVariants.{Header, Display, Coloured, Copyright}
 use Rattle.layout.specs.declared.Fault.{Fault}
 use Rattle.layout.specs.declared.Fault.TheVariants as fault
-use Rattle.layout.specs.declared.Verdict.{Verdict}
-use Rattle.layout.specs.declared.Verdict.TheVariants.{Fine, Faulty}
 use Rattle.layout.proofs.ReadingLaws.{value_good, values_first}
 use Rattle.layout.proofs.EndLaws.{zeros_are, are_zeros}
 use Rattle.layout.proofs.JudgeLaws.{reading_long}
 
 -- ── results ──
 
-pub then_good : {A : Type 0} (v : Verdict) (r : Reading A) (a : A) → (v >> r) ≡ Ok a → (v ≡ Fine) × (r ≡ Ok a)
-then_good Fine r a e = (refl, e)
-then_good (Faulty why) r a e = not_ok e
+pub then_good : {A : Type 0} (v : Verdict) (r : Reading A) (a : A) → (v >> r) ≡ Ok a → (v ≡ Ok tt) × (r ≡ Ok a)
+then_good (Ok tt) r a e = (refl, e)
+then_good (Err why) r a e = not_ok e
 
-pub fine_then : {A : Type 0} (v : Verdict) (r : Reading A) → v ≡ Fine → (v >> r) ≡ r
+pub fine_then : {A : Type 0} (v : Verdict) (r : Reading A) → v ≡ Ok tt → (v >> r) ≡ r
 fine_then v r e = rw e
 
-pub both_fine : (v w : Verdict) → both v w ≡ Fine → (v ≡ Fine) × (w ≡ Fine)
-both_fine Fine w e = (refl, e)
-both_fine (Faulty why) w e = let z : ◌≡◌ {A = ℕ} 0 1 = cc in absurd (omega arith)
+pub both_fine : (v w : Verdict) → both v w ≡ Ok tt → (v ≡ Ok tt) × (w ≡ Ok tt)
+both_fine (Ok tt) w e = (refl, e)
+both_fine (Err why) w e = let z : ◌≡◌ {A = ℕ} 0 1 = cc in absurd (omega arith)
 
-fine_both : (v w : Verdict) → v ≡ Fine → w ≡ Fine → both v w ≡ Fine
+fine_both : (v w : Verdict) → v ≡ Ok tt → w ≡ Ok tt → both v w ≡ Ok tt
 fine_both v w e f = rw (e, f)
 
-if_fine : (t : Bool) (why : Fault) → refuse_if t why ≡ Fine → t ≡ false
+if_fine : (t : Bool) (why : Fault) → refuse_if t why ≡ Ok tt → t ≡ false
 if_fine true why e = let z : ◌≡◌ {A = ℕ} 0 1 = cc in absurd (omega arith)
 if_fine false why e = refl
 
-fine_if : (t : Bool) (why : Fault) → t ≡ false → refuse_if t why ≡ Fine
+fine_if : (t : Bool) (why : Fault) → t ≡ false → refuse_if t why ≡ Ok tt
 fine_if t why e = rw e
 
 -- ── values are read exactly where their bits stand ──
@@ -133,19 +131,19 @@ if_allowed (But one) v h = ap not (ne_eqb v one h)
 if_allowed (Within least greatest) v h = rw (le-leb least v h.0, le-leb v greatest h.1)
 if_allowed (WithinBut least greatest one) v h = rw (le-leb least v h.0, le-leb v greatest h.1, ne_eqb v one h.2)
 
-pub kept_if : (r : Rule) (v at : ℕ) → ruled r v at ≡ Fine → Keeps r v
+pub kept_if : (r : Rule) (v at : ℕ) → ruled r v at ≡ Ok tt → Keeps r v
 unfolding ruled
 kept_if rule.Any v at e = tt
 kept_if rule.Set v at e = eqb-true v 1 (not-false _ (if_fine _ _ e))
 kept_if (rule.Judged field values) v at e = allowed_if values v (not-false _ (if_fine _ _ e))
 
-pub if_kept : (r : Rule) (v at : ℕ) → Keeps r v → ruled r v at ≡ Fine
+pub if_kept : (r : Rule) (v at : ℕ) → Keeps r v → ruled r v at ≡ Ok tt
 unfolding ruled
 if_kept rule.Any v at h = refl
 if_kept rule.Set v at h = fine_if _ _ (ap not (eq-eqb v 1 h))
 if_kept (rule.Judged field values) v at h = fine_if _ _ (ap not (if_allowed values v h))
 
-pub judge_fine : (fs : List Field) (at : ℕ) (vs : List ℕ) → Fits fs vs → judge fs at vs ≡ Fine → AllAllowed fs vs
+pub judge_fine : (fs : List Field) (at : ℕ) (vs : List ℕ) → Fits fs vs → judge fs at vs ≡ Ok tt → AllAllowed fs vs
 unfolding judge Fits AllAllowed
 judge_fine [] at [] h e = tt
 judge_fine [] at (v ∷ vs) h e = absurd h
@@ -154,7 +152,7 @@ judge_fine (f ∷ fs) at (v ∷ vs) h e =
     let p = both_fine (ruled (rule_of f) v at) (judge fs (at + width_of f) vs) e in
     (kept_if (rule_of f) v at p.0, judge_fine fs (at + width_of f) vs h.1 p.1)
 
-pub fine_judge : (fs : List Field) (at : ℕ) (vs : List ℕ) → AllAllowed fs vs → judge fs at vs ≡ Fine
+pub fine_judge : (fs : List Field) (at : ℕ) (vs : List ℕ) → AllAllowed fs vs → judge fs at vs ≡ Ok tt
 unfolding judge AllAllowed
 fine_judge [] at [] h = refl
 fine_judge [] at (v ∷ vs) h = absurd h
@@ -169,28 +167,28 @@ implied a b e z = let h : not (eqb b 0) ≡ false = rw (eq-eqb a 0 z) at e in eq
 implies : (a b : ℕ) → (a ≡ 0 → b ≡ 0) → eqb a 0 && not (eqb b 0) ≡ false
 implies a b f = by_test (eqb a 0) (λ t. rw (t, eq-eqb b 0 (f (eqb-true a 0 t)))) (λ n. rw n)
 
-owned_if : (c : Ownership) → owner_rules c ≡ Fine → Owned c
+owned_if : (c : Ownership) → owner_rules c ≡ Ok tt → Owned c
 unfolding owner_rules
 owned_if c e =
     let h = both_fine (refuse_if (eqb c.flag 0 && not (eqb c.owner 0)) (fault.Value CopyrightOwner 5)) _ e in
     record { unflagged = implied c.flag c.owner (if_fine _ _ h.0); unowned = implied c.owner c.number (if_fine _ _ h.1) }
 
-if_owned : (c : Ownership) → Owned c → owner_rules c ≡ Fine
+if_owned : (c : Ownership) → Owned c → owner_rules c ≡ Ok tt
 unfolding owner_rules
 if_owned c h = fine_both _ _ (fine_if _ _ (implies c.flag c.owner h.unflagged)) (fine_if _ _ (implies c.owner c.number h.unowned))
 
-record_fine : (o : Option Ownership) → owned_by o ≡ Fine → (c : Ownership) × (o ≡ some c) × Owned c
+record_fine : (o : Option Ownership) → owned_by o ≡ Ok tt → (c : Ownership) × (o ≡ some c) × Owned c
 record_fine none e = let z : ◌≡◌ {A = ℕ} 0 1 = cc in absurd (omega arith)
 record_fine (some c) e = (c, refl, owned_if c e)
 
-pub cross_fine : (layout : Layout) (vs : List ℕ) → cross layout vs ≡ Fine → Crossed layout vs
+pub cross_fine : (layout : Layout) (vs : List ℕ) → cross layout vs ≡ Ok tt → Crossed layout vs
 unfolding cross Crossed
 cross_fine Header vs e = tt
 cross_fine Display vs e = tt
 cross_fine Coloured vs e = tt
 cross_fine Copyright vs e = record_fine (ownership vs) e
 
-pub fine_cross : (layout : Layout) (vs : List ℕ) → Crossed layout vs → cross layout vs ≡ Fine
+pub fine_cross : (layout : Layout) (vs : List ℕ) → Crossed layout vs → cross layout vs ≡ Ok tt
 unfolding cross Crossed
 fine_cross Header vs h = refl
 fine_cross Display vs h = refl

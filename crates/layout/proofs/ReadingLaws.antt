@@ -10,14 +10,12 @@ use Rattle.bits.specs.Bits.{read_on, read_at}
 use Rattle.bits.proofs.ListLaws.{drop_take}
 use Rattle.answers.proofs.ResultLaws.{not_ok, ok_same, bind_ok}
 use Rattle.layout.specs.Layouts.{width_of, rule_of}
-use Rattle.layout.specs.Reader.{Reading, ◌>>◌, both, read_value, ruled, values_of, judge}
+use Rattle.layout.specs.Reader.{Verdict, Reading, ◌>>◌, both, read_value, ruled, values_of, judge}
 use Rattle.layout.specs.Inside.{taken, taken_from}
 use Rattle.answers.specs.Results.{◌>>=◌}
 use Rattle.layout.specs.declared.Field.{Field}
 use Rattle.layout.specs.declared.Fault.TheVariants.{Short}
 use Rattle.layout.specs.declared.Fault.{Fault}
-use Rattle.layout.specs.declared.Verdict.{Verdict}
-use Rattle.layout.specs.declared.Verdict.TheVariants.{Fine, Faulty}
 
 -- ── a read looks no further than its end ──
 
@@ -92,13 +90,13 @@ taken_end fs at l bits e = ap (λ (gs : List Field). onto l (taken_from gs at bi
 
 -- where all values are read, that is judging them
 onto_then : (v : ℕ) (vs : List ℕ) (w : Verdict) → ((w >> Ok vs) >>= (λ us. Ok (v ∷ us))) ≡ (w >> Ok (v ∷ vs))
-onto_then v vs Fine = refl
-onto_then v vs (Faulty why) = refl
+onto_then v vs (Ok tt) = refl
+onto_then v vs (Err why) = refl
 
 -- a field's verdict, and then those of the fields after it
 both_onto : (v : ℕ) (us : List ℕ) (w j : Verdict) → ((w >> Ok v) >>= (λ v. (j >> Ok us) >>= (λ vs. Ok (v ∷ vs)))) ≡ (both w j >> Ok (v ∷ us))
-both_onto v us Fine j = onto_then v us j
-both_onto v us (Faulty why) j = refl
+both_onto v us (Ok tt) j = onto_then v us j
+both_onto v us (Err why) j = refl
 
 pub taken_judged : (fs : List Field) (at : ℕ) (bits vs : List ℕ) → values_of fs at bits ≡ Ok vs → taken_from fs at bits ≡ (judge fs at vs >> Ok vs)
 unfolding values_of judge taken_from

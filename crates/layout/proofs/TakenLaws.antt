@@ -1,5 +1,5 @@
 -- Reading a body that is long enough is taking its fields, then the rules across them, then its end.
-use Rattle.std.proofs.Common.{Ok}
+use Rattle.std.proofs.Common.{Ok, Err}
 use Prim.Native.Nat.{ℕ, ◌≤◌}
 use mathlib.Core.Path.{◌≡◌, refl, sym, ap, ◌∙◌, subst}
 use mathlib.Core.List.{List}
@@ -8,13 +8,12 @@ use Rattle.answers.specs.Results.{◌>>=◌}
 use Rattle.answers.proofs.ResultLaws.{ok_same}
 use Rattle.bits.specs.Bits.{bits_of}
 use Rattle.layout.specs.Layouts.{fields, least_bytes}
-use Rattle.layout.specs.Reader.{Reading, ◌>>◌, both, judge, cross, judged, ended, reading}
+use Rattle.layout.specs.Reader.{Verdict, Reading, ◌>>◌, both, judge, cross, judged, ended, reading}
 use Rattle.layout.specs.Inside.{taken_from}
 use Rattle.layout.specs.declared.Layout.{Layout}
-use Rattle.layout.specs.declared.Verdict.{Verdict}
-use Rattle.layout.specs.declared.Verdict.TheVariants.{Fine, Faulty}
 use Rattle.layout.proofs.LayoutLaws.{fits_length}
 use Rattle.layout.proofs.ReadingLaws.{taken_judged}
+use Rattle.layout.proofs.JudgeLaws.{both_says}
 use Rattle.layout.proofs.ObeyLaws.{then_good}
 use Rattle.layout.proofs.BreakLaws.{holds, held_read, held_reading}
 
@@ -23,8 +22,8 @@ abbrev pub across : Layout → List ℕ → Reading (List ℕ) → Reading (List
 across layout body values = values >>= (λ vs. cross layout vs >> (ended layout body >> Ok vs))
 
 both_then : (v w : Verdict) (layout : Layout) (body vs : List ℕ) → w ≡ cross layout vs → (both v w >> (ended layout body >> Ok vs)) ≡ across layout body (v >> Ok vs)
-both_then Fine w layout body vs e = ap (λ (x : Verdict). x >> (ended layout body >> Ok vs)) e
-both_then (Faulty why) w layout body vs e = refl
+both_then (Ok tt) w layout body vs e = ap (λ (x : Verdict). x >> (ended layout body >> Ok vs)) e
+both_then (Err why) w layout body vs e = refl
 
 module _ (layout : Layout) (body : List ℕ) (long : least_bytes layout ≤ length body) where
   abbrev vs : List ℕ
@@ -39,6 +38,10 @@ module _ (layout : Layout) (body : List ℕ) (long : least_bytes layout ≤ leng
       held_reading layout body vs _ (holds layout body long).1
       ∙ both_then (judge (fields layout) 0 vs) (cross layout vs) layout body vs refl
       ∙ ap (across layout body) (sym taken_is)
+
+  -- a body whose values are taken is what judging them finds
+  pub reading_judged : (us : List ℕ) → taken_from (fields layout) 0 (bits_of body) ≡ Ok us → reading layout body ≡ (both (cross layout us) (ended layout body) >> Ok us)
+  reading_judged us e = reading_taken ∙ ap (across layout body) e ∙ sym (both_says (cross layout us) (ended layout body) us)
 
   -- as many values are taken as there are fields
   pub taken_length : (us : List ℕ) → taken_from (fields layout) 0 (bits_of body) ≡ Ok us → length us ≡ length (fields layout)

@@ -1,12 +1,10 @@
 -- What the private functions promise one another; no part of document 01.
-use Rattle.std.specs.Prelude.{ℕ, ◌+◌, List, [], ◌∷◌, Ok, Err}
+use Rattle.std.specs.Prelude.{ℕ, ◌+◌, List, [], ◌∷◌, Ok}
 use Rattle.answers.specs.Results.{◌>>=◌}
 use Rattle.bits.specs.Bits.{read_at}
 use Rattle.layout.specs.Layouts.{width_of, rule_of}
 use Rattle.layout.specs.Reader.{Reading, ◌>>◌, read_value, ruled}
 use Rattle.layout.specs.declared.Field.{Field}
-use Rattle.layout.specs.declared.FieldReading.{FieldReading}
-use Rattle.layout.specs.declared.FieldReading.TheVariants as fieldReading
 
 -- a field's value where its rule is kept
 unfoldable pub taken : Field → ℕ → List ℕ → Reading ℕ
@@ -22,7 +20,3 @@ taken_from (f ∷ fs) at bits = do
   v ← taken f at bits
   vs ← taken_from fs (at + width_of f) bits
   Ok (v ∷ vs)
-
-abbrev pub field_says : FieldReading → Reading ℕ
-field_says (fieldReading.Value v) = Ok v
-field_says (fieldReading.Faulty fault) = Err fault

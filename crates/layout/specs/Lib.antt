@@ -3,6 +3,5 @@ pub mod Layouts
 pub mod Values
 pub mod Obeys
 pub mod Breaks
-pub mod Answers
 pub mod Reader
 pub mod Inside

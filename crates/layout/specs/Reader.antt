@@ -15,8 +15,6 @@ use Rattle.layout.specs.declared.Layout.{Layout}
 use Rattle.layout.specs.declared.Layout.TheVariants.{Header, Display, Coloured, Copyright}
 use Rattle.layout.specs.declared.Fault.{Fault}
 use Rattle.layout.specs.declared.Fault.TheVariants.{Short, Marker, Value, Stuffing}
-use Rattle.layout.specs.declared.Verdict.{Verdict}
-use Rattle.layout.specs.declared.Verdict.TheVariants.{Fine, Faulty}
 
 infixl 10 ◌>>◌
 -- ── results: what was read, or what is wrong ──
@@ -24,20 +22,23 @@ infixl 10 ◌>>◌
 abbrev pub Reading : Type 0 → Type 0
 Reading A = Result A Fault
 
--- a verdict on a line of its own: what follows stands where it is Fine
+-- nothing is wrong, or what is
+abbrev pub Verdict : Type 0
+Verdict = Reading (Unit {0})
+
+-- a verdict on a line of its own: what follows stands where nothing is wrong
 abbrev pub ◌>>◌ : {A : Type 0} → Verdict → Reading A → Reading A
-◌>>◌ Fine rest = rest
-◌>>◌ (Faulty fault) rest = Err fault
+◌>>◌ (Ok fine) rest = rest
+◌>>◌ (Err fault) rest = Err fault
 
 -- a fault where the test holds
 abbrev pub refuse_if : Bool → Fault → Verdict
-refuse_if true fault = Faulty fault
-refuse_if false fault = Fine
+refuse_if true fault = Err fault
+refuse_if false fault = Ok tt
 
--- the first verdict that is not Fine
+-- the first verdict that finds a fault
 abbrev pub both : Verdict → Verdict → Verdict
-both Fine verdict = verdict
-both (Faulty fault) verdict = Faulty fault
+both verdict other = verdict >> other
 
 -- bits that are not there are SHORT, which is about bytes: it does not say how many
 abbrev pub read_value : Result ℕ ℕ → Reading ℕ
@@ -58,7 +59,7 @@ allows (WithinBut least greatest one) v = leb least v && leb v greatest && not (
 
 -- what is found of a field by its rule, from its value and its first bit
 unfoldable pub ruled : Rule → ℕ → ℕ → Verdict
-ruled rule.Any v at = Fine
+ruled rule.Any v at = Ok tt
 ruled rule.Set v at = refuse_if (not (eqb v 1)) (Marker at)
 ruled (rule.Judged field values) v at = refuse_if (not (allows values v)) (Value field at)
 
@@ -72,8 +73,8 @@ values_of (f ∷ fs) at bits = do
 
 -- the first field whose rule is broken; the first field of all begins at bit `at`
 unfoldable pub judge : List Field → ℕ → List ℕ → Verdict
-judge [] at vs = Fine
-judge (f ∷ fs) at [] = Faulty Short
+judge [] at vs = Ok tt
+judge (f ∷ fs) at [] = Err Short
 judge (f ∷ fs) at (v ∷ vs) = both (ruled (rule_of f) v at) (judge fs (at + width_of f) vs)
 
 -- After the last field of a copyright extension, VALUE if flag 0 with owner not 0, or owner 0 with number not 0.
@@ -85,14 +86,14 @@ owner_rules c =
 
 -- values that are not there are SHORT
 abbrev pub owned_by : Option Ownership → Verdict
-owned_by none = Faulty Short
+owned_by none = Err Short
 owned_by (some c) = owner_rules c
 
 -- the rules across fields
 unfoldable pub cross : Layout → List ℕ → Verdict
-cross Header vs = Fine
-cross Display vs = Fine
-cross Coloured vs = Fine
+cross Header vs = Ok tt
+cross Display vs = Ok tt
+cross Coloured vs = Ok tt
 cross Copyright vs = owned_by (ownership vs)
 
 -- what values are refused for

@@ -2,7 +2,6 @@
 // and its bit, - where it has none. tests/examples_oracle.py has the answers as the papers give them.
 #![tactic(auto)]
 
-use bodies::HeaderAnswer;
 use filing::{Refusal, Totals};
 use std::{fmt, io};
 
@@ -12,13 +11,13 @@ const H: [u8; 15] = *b"\x48\x40\x0F\x00\x21\xC2\x4C\xC4\xE2\x08\x00\x20\x02\x00\
 
 fn example_header(rt: &impl Print) -> io::Result<()> {
     match bodies::sequence_header(&H) {
-        HeaderAnswer::Header(h) => {
+        Ok(h) => {
             let (width, height, bitrate) = (h.horizontal, h.vertical, h.bitrate);
             let columns = macroblocks::macroblock_columns(h);
             let rows = macroblocks::macroblock_rows(h);
             println!(rt; "H {width} {height} {bitrate} {columns} {rows}")
         }
-        HeaderAnswer::Refused(_) => println!(rt;),
+        Err(_) => println!(rt;),
     }
 }
 

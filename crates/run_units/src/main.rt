@@ -3,7 +3,7 @@
 // this file, works the answers out by itself, and says what the numbers are.
 #![tactic(auto)]
 
-use bodies::{ExtensionAnswer, HeaderAnswer, Scope};
+use bodies::{ExtensionBody, Scope, SequenceHeader};
 use grammar::{Reason, SliceRule, State};
 use layout::Fault;
 use std::{fmt, io};
@@ -211,27 +211,27 @@ const BODIES: [(u32, usize, usize, u8); 38] = [
 ];
 
 #[derive(Drop)]
-struct Header(HeaderAnswer);
+struct Header(Result<SequenceHeader, Fault>);
 
 impl fmt::Display for Header {
     fn fmt<W: fmt::Write>(&self, f: &mut fmt::Formatter<W>) -> fmt::Result {
         match self.0 {
-            HeaderAnswer::Header(_) => write!(f, "header"),
-            HeaderAnswer::Refused(why) => write!(f, "{}", Refused::from(why)),
+            Ok(_) => write!(f, "header"),
+            Err(why) => write!(f, "{}", Refused::from(why)),
         }
     }
 }
 
 #[derive(Drop)]
-struct Extension(ExtensionAnswer);
+struct Extension(Result<ExtensionBody, Fault>);
 
 impl fmt::Display for Extension {
     fn fmt<W: fmt::Write>(&self, f: &mut fmt::Formatter<W>) -> fmt::Result {
         match self.0 {
-            ExtensionAnswer::Display(_) => write!(f, "display"),
-            ExtensionAnswer::Copyright(_) => write!(f, "copyright"),
-            ExtensionAnswer::Opaque(number) => write!(f, "opaque {number}"),
-            ExtensionAnswer::Refused(why) => write!(f, "{}", Refused::from(why)),
+            Ok(ExtensionBody::Display(_)) => write!(f, "display"),
+            Ok(ExtensionBody::Copyright(_)) => write!(f, "copyright"),
+            Ok(ExtensionBody::Opaque(number)) => write!(f, "opaque {number}"),
+            Err(why) => write!(f, "{}", Refused::from(why)),
         }
     }
 }
