@@ -8,14 +8,10 @@ use lib.Dec.{eqb}
 use Rattle.answers.specs.Answers.{Carried, at_offset, at_bit, missing, Outcome, done, refused, OneToOne, SHORT, MARKER, STUFFING}
 use Rattle.answers.proofs.OutcomeLaws.{undone}
 use Rattle.bodies.specs.Answers.{value_number, fault_number, fault_bit, answer_of}
-use Rattle.bodies.specs.Reader.{header_result, header_of, extension_result, extension_of}
 use Rattle.layout.specs.declared.JudgedField.{JudgedField}
 use Rattle.layout.specs.declared.JudgedField.TheVariants.{Width, Height, Chroma, Precision, Aspect, Rate, Transfer, Matrix, Stereo, CopyrightOwner, CopyrightNumber}
 use Rattle.layout.specs.declared.Fault.{Fault}
 use Rattle.layout.specs.declared.Fault.TheVariants.{Short, Marker, Value, Stuffing}
-use Rattle.bodies.specs.declared.Scope.{Scope}
-use Rattle.bodies.specs.declared.SequenceHeader.{SequenceHeader}
-use Rattle.bodies.specs.declared.ExtensionBody.{ExtensionBody}
 
 -- ── what is wrong with a body ──
 
@@ -68,13 +64,3 @@ result_of_lem (Err fault) = ap Err (fault_of_lem fault)
 
 pub answer_one : {A : Type 0} → OneToOne (answer_of {A = A})
 answer_one = undone answer_of result_of result_of_lem
-
--- ── what is said is what is given ──
-
-pub header_given : (body : List ℕ) (a : Result SequenceHeader Fault) → answer_of a ≡ header_of body → a ≡ header_result body
-unfolding header_of
-header_given body a e = answer_one a (header_result body) e
-
-pub extension_given : (scope : Scope) (body : List ℕ) (a : Result ExtensionBody Fault) → answer_of a ≡ extension_of scope body → a ≡ extension_result scope body
-unfolding extension_of
-extension_given scope body a e = answer_one a (extension_result scope body) e

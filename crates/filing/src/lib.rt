@@ -15,7 +15,7 @@ ghost use Rattle.filing.specs.Inside.{short_span, unit_or_refusal, Spans, KeptBy
 
 use bodies::Scope;
 use grammar::{Reason, State};
-use startcode::{Kind, UnitKind};
+use startcode::Kind;
 use units::NextUnit;
 
 // A refusal and its offset in the stream.
@@ -152,8 +152,8 @@ fn scope_after(scope: Scope, code: u8) -> Scope
     ensures { result ≡ scope_after scope (kind_of code) }
 {
     match startcode::kind_of(code) {
-        UnitKind::Is(kind) => after_kind(scope, kind),
-        UnitKind::Unknown => scope,
+        Some(kind) => after_kind(scope, kind),
+        None => scope,
     }
 }
 

@@ -13,7 +13,7 @@ ghost use Rattle.groups.specs.Inside.{Tells, units_from, Here};
 
 use bodies::{DisplayExtension, ExtensionBody, Scope, SequenceHeader};
 use filing::Refusal;
-use startcode::{Kind, UnitKind};
+use startcode::Kind;
 
 // A group's header record, and the display extension of its head where that is given.
 #[derive(Clone, Copy)]
@@ -61,8 +61,8 @@ fn begins_group(code: u8) -> bool
     ensures { result ≡ is_kind Kind.SequenceHeader (kind_of code) }
 {
     match startcode::kind_of(code) {
-        UnitKind::Is(kind) => is_header(kind),
-        UnitKind::Unknown => false,
+        Some(kind) => is_header(kind),
+        None => false,
     }
 }
 
@@ -91,8 +91,8 @@ fn in_group_head(code: u8, body: &[u8]) -> InHead
     ensures { Tells result (in_head (kind_of code) body.now) }
 {
     match startcode::kind_of(code) {
-        UnitKind::Is(kind) => head_unit(kind, body),
-        UnitKind::Unknown => InHead::Past,
+        Some(kind) => head_unit(kind, body),
+        None => InHead::Past,
     }
 }
 

@@ -6,11 +6,11 @@ use mathlib.Core.List.{List, [], ◌∷◌, ◌++◌}
 use mathlib.Core.Bool.{Bool, true, false, ◌&&◌, and_assoc}
 use native.Mathlib.Omega.{arith}
 use native.Mathlib.Numerals.{add-one}
-use borrow.Author.Tests.{eqb-true, eq-eqb, ne_eqb}
+use borrow.Author.Tests.{eqb-true, eq-eqb}
 use lib.Dec.{eqb}
 use native.Mathlib.Nat.{div-eq_of_lt}
 use lib.ListN.{length, get_or, take, drop, replicate}
-use lib.Seq.{take_all, drop-nil, drop-cons, drop-length, drop-append-add}
+use lib.Seq.{take_all, drop-nil, drop-cons, drop-append-add}
 use Rattle.bits.specs.Lists.{All}
 use Rattle.answers.proofs.ResultLaws.{ok_same}
 use Rattle.bits.specs.Bits.{bits_in, bits_of, read_on}
@@ -103,12 +103,3 @@ stuffed_at b k h f =
     ap stuffing (drop_bits k b ∙ ap bits_of (drop-cons b k 0 h))
     ∙ stuffed_bits (get_or b k 0) (drop (suc k) b) (f k) (all_drop Byte (suc k) b (all_bytes b f))
     ∙ rw add-one
-
-pub zero_end : (b : List ℕ) → all_zero (drop (length b) b) ≡ true
-zero_end b = rw drop-length
-
-pub zero_more : (b : List ℕ) (i : ℕ) → i < length b → get_or b i 0 ≡ 0 → all_zero (drop i b) ≡ all_zero (drop (i + 1) b)
-zero_more b i h e = rw add-one (ap all_zero (drop-cons b i 0 h) ∙ rw e)
-
-pub zero_not : (b : List ℕ) (i : ℕ) → i < length b → (get_or b i 0 ≡ 0 → ⊥) → all_zero (drop i b) ≡ false
-zero_not b i h n = ap all_zero (drop-cons b i 0 h) ∙ rw (ne_eqb _ 0 n)

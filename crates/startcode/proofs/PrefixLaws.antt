@@ -48,6 +48,10 @@ begins_short (a ∷ []) h = refl
 begins_short (a ∷ b ∷ []) h = refl
 begins_short (a ∷ b ∷ c ∷ s) h = absurd (omega arith)
 
+-- where three bytes are not left no prefix stands
+pub begins_past : (s : List ℕ) (i : ℕ) → length s < i + 3 → begins (drop i s) ≡ false
+begins_past s i h = begins_short (drop i s) (rw length-drop (omega arith))
+
 pub search_start : (s : List ℕ) (from : ℕ) → next_prefix s from ≡ min from (length s) + before (drop from s)
 unfolding next_prefix
 search_start s from = rw length-take

@@ -15,8 +15,7 @@ use Rattle.bits.proofs.TestLaws.{at_each, beq_true, by_test, chosen, contrary}
 use Rattle.startcode.specs.Prefix.{begins, before, next_prefix, First}
 use Rattle.startcode.specs.Kinds.{Codes, kinds, kind_in, kind_of, kind_says}
 use Rattle.startcode.specs.declared.Kind.{Kind}
-use Rattle.startcode.specs.declared.UnitKind.{UnitKind}
-use Rattle.startcode.specs.declared.UnitKind.TheVariants.{Is, Unknown}
+use Rattle.std.proofs.Common.{Option, Some, None}
 use Rattle.startcode.proofs.PrefixLaws.{search_start, before_le, before_found, before_none}
 
 module _ (stream : List ℕ) (from : ℕ) where
@@ -54,14 +53,14 @@ not_before {stream} {from} {a} p q h =
 pub first_once : {stream : List ℕ} {from a b : ℕ} → First stream from a → First stream from b → a ≡ b
 first_once p q = omega (arith, not_before p q, not_before q p)
 
-unit_kind_of : Outcome Kind → UnitKind
-unit_kind_of (done k) = Is k
-unit_kind_of (refused number carried) = Unknown
+unit_kind_of : Outcome Kind → Option Kind
+unit_kind_of (done k) = Some k
+unit_kind_of (refused number carried) = None
 
-kind_undone : (a : UnitKind) → unit_kind_of (kind_says a) ≡ a
+kind_undone : (a : Option Kind) → unit_kind_of (kind_says a) ≡ a
 unfolding unit_kind_of
-kind_undone (Is k) = refl
-kind_undone Unknown = refl
+kind_undone (Some k) = refl
+kind_undone None = refl
 
 pub kind_one_to_one : OneToOne kind_says
 kind_one_to_one = undone kind_says unit_kind_of kind_undone

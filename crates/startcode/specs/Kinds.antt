@@ -1,10 +1,8 @@
 -- "Code bytes: 00 to AF slice; B0 sequence header; ..": the kind of a unit by its code byte.
-use Rattle.std.specs.Prelude.{ℕ, List, [], ◌∷◌, cond, ◌&&◌, leb}
+use Rattle.std.specs.Prelude.{ℕ, List, [], ◌∷◌, Option, Some, None, cond, ◌&&◌, leb}
 use Rattle.answers.specs.Answers.{Outcome, done, refused, UNKNOWN}
 use Rattle.startcode.specs.declared.Kind.{Kind}
 use Rattle.startcode.specs.declared.Kind.TheVariants.{Slice, SequenceHeader, SequenceEnd, UserData, IPicture, Extension, PBPicture, EditCode}
-use Rattle.startcode.specs.declared.UnitKind.{UnitKind}
-use Rattle.startcode.specs.declared.UnitKind.TheVariants.{Is, Unknown}
 
 -- the code bytes of a kind
 pub record Codes : Type 0 where
@@ -39,6 +37,6 @@ unfoldable pub kind_of : ℕ → Outcome Kind
 kind_of byte = kind_in kinds byte
 
 -- the numbers of `kind_of`'s answers
-abbrev pub kind_says : UnitKind → Outcome Kind
-kind_says (Is k) = done k
-kind_says Unknown = refused UNKNOWN []
+abbrev pub kind_says : Option Kind → Outcome Kind
+kind_says (Some k) = done k
+kind_says None = refused UNKNOWN []

@@ -6,7 +6,8 @@ ghost use Rattle.startcode.specs.Prefix.{begins, next_prefix};
 ghost use Rattle.startcode.specs.Kinds.{kind_of, kind_says};
 ghost use Rattle.startcode.specs.Inside.{Found, Runs};
 
-#[derive(Clone, Copy)]
+// The kinds of unit, numbered in document 01's order.
+#[derive(Clone, Copy, Debug, PartialEq, Eq)]
 pub enum Kind {
     Slice,
     SequenceHeader,
@@ -18,63 +19,45 @@ pub enum Kind {
     EditCode,
 }
 
-#[derive(Clone, Copy)]
-pub enum UnitKind {
-    Is(Kind),
-    Unknown,
-}
-
-// The kind of a unit, by its code byte.
-pub fn kind_of(code: u8) -> UnitKind
+// The kind of a unit, by its code byte; none is document 01's UNKNOWN.
+pub fn kind_of(code: u8) -> Option<Kind>
     ensures { kind_says result ≡ kind_of code }
 {
     match code {
-        0x00..=0xAF => UnitKind::Is(Kind::Slice),
-        0xB0 => UnitKind::Is(Kind::SequenceHeader),
-        0xB1 => UnitKind::Is(Kind::SequenceEnd),
-        0xB2 => UnitKind::Is(Kind::UserData),
-        0xB3 => UnitKind::Is(Kind::IPicture),
-        0xB5 => UnitKind::Is(Kind::Extension),
-        0xB6 => UnitKind::Is(Kind::PBPicture),
-        0xB7 => UnitKind::Is(Kind::EditCode),
-        _ => UnitKind::Unknown,
+        0x00..=0xAF => Some(Kind::Slice),
+        0xB0 => Some(Kind::SequenceHeader),
+        0xB1 => Some(Kind::SequenceEnd),
+        0xB2 => Some(Kind::UserData),
+        0xB3 => Some(Kind::IPicture),
+        0xB5 => Some(Kind::Extension),
+        0xB6 => Some(Kind::PBPicture),
+        0xB7 => Some(Kind::EditCode),
+        _ => None,
     }
 }
 
 // Whether 00 00 01 stands at a place.
+#[tactic(auto, using(crate::proofs::PrefixLaws::begins_past))]
 pub fn prefix_at(stream: &[u8], at: usize) -> bool
     ensures { result ≡ begins (drop at stream.now) }
 {
-    let n = stream.len();
-    if n < 3 {
-        return false;
-    }
-    if n - 3 < at {
-        return false;
-    }
-    begins_at(stream, at)
+    3 <= stream.len() && at <= stream.len() - 3 && begins_at(stream, at)
 }
 
 // The same of a place that has three bytes.
+#[tactic(auto, using(crate::proofs::PrefixLaws::begins_at))]
 fn begins_at(stream: &[u8], at: usize) -> bool
     requires { at + 2 < length stream.now }
     ensures { result ≡ begins (drop at stream.now) }
 {
-    if stream[at] != 0 {
-        return false;
-    }
-    if stream[at + 1] != 0 {
-        return false;
-    }
-    stream[at + 2] == 1
+    stream[at] == 0 && stream[at + 1] == 0 && stream[at + 2] == 1
 }
 
 // The place of the next 00 00 01 at or after from, or the stream's length.
 pub fn next_prefix(stream: &[u8], from: usize) -> usize
     ensures { result ≡ next_prefix stream.now from }
 {
-    let found = search(stream, from);
-    found.place
+    search(stream, from).place
 }
 
 // A place, and the steps that led there.
@@ -91,14 +74,12 @@ fn search(stream: &[u8], from: usize) -> Reached
     ensures { Found stream.now from result.place result.steps }
 {
     let n = stream.len();
-    if n <= 2 {
-        return Reached { place: n, steps: 0 };
-    }
-    if n - 2 <= from {
+    if n.saturating_sub(2) <= from {
         return Reached { place: n, steps: 0 };
     }
     let mut third = from + 2;
     let mut steps: usize = 0;
+    // Not a for: a step is of one place or of three.
     while third < n {
         let byte = stream[third];
         let mut past: usize = 3;
@@ -131,6 +112,7 @@ fn steps_of_three(stream: &[u8], from: usize) -> Reached
     let n = stream.len();
     let mut place = from;
     let mut steps: usize = 0;
+    // Not a for: a turn is of four steps, or ends the run at one of them.
     while place + 12 < n {
         if stream[place + 3] <= 1 {
             return Reached { place, steps };

@@ -17,7 +17,7 @@ ghost use Rattle.statuses.specs.Answers.{carried_bit, counted, filed_answer, par
 use grammar::Reason;
 use layout::Fault;
 use payload::RemovalError;
-use startcode::{Kind, UnitKind};
+use startcode::Kind;
 
 // What a call answers: a status, the offset of a stream's refusal, how many units, numbers or bits were handed over, and the bit place
 // inside the body that a refusal carries.
@@ -168,27 +168,12 @@ pub fn remove_escapes(raw: &[u8], output: &mut [u8]) -> Answer
     }
 }
 
-fn kind_number(kind: Kind) -> u32
-    ensures { result ≡ kind_number kind }
-{
-    match kind {
-        Kind::Slice => 0,
-        Kind::SequenceHeader => 1,
-        Kind::SequenceEnd => 2,
-        Kind::UserData => 3,
-        Kind::IPicture => 4,
-        Kind::Extension => 5,
-        Kind::PBPicture => 6,
-        Kind::EditCode => 7,
-    }
-}
-
 // The number of a unit's kind, by its code byte.
 pub fn kind(code: u8) -> u32
     ensures { result ≡ kind_answer (kind_of code) }
 {
     match startcode::kind_of(code) {
-        UnitKind::Is(kind) => kind_number(kind),
-        UnitKind::Unknown => 8,
+        Some(kind) => kind as u32,
+        None => 8,
     }
 }

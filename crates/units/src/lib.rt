@@ -10,7 +10,7 @@ ghost use Rattle.units.specs.Inside.{extension_scope};
 
 use bodies::Scope;
 use grammar::{Reason, SliceRule, State};
-use startcode::{Kind, UnitKind};
+use startcode::Kind;
 
 // What follows a unit: the state after it, where it ends, and its row's length.
 #[derive(Clone, Copy, Debug, PartialEq, Eq)]
@@ -155,8 +155,8 @@ pub fn row_length(scope: Scope, code: u8, body: &[u8]) -> usize
     ensures { result ≡ row_length (placed scope (record { code = code; body = body.now })) }
 {
     match startcode::kind_of(code) {
-        UnitKind::Is(kind) => length_in(scope, kind, body),
-        UnitKind::Unknown => trimmed_length(body),
+        Some(kind) => length_in(scope, kind, body),
+        None => trimmed_length(body),
     }
 }
 
@@ -167,7 +167,7 @@ fn unit_of(state: State, code: u8, body: &[u8], end: usize) -> Result<NextUnit, 
     ensures { result ≡ unit_from state (record { code = code; body = body.now }) end }
 {
     match startcode::kind_of(code) {
-        UnitKind::Is(kind) => {
+        Some(kind) => {
             let next = in_state(state, kind, code, body)?;
             Ok(NextUnit {
                 state: next,
@@ -175,7 +175,7 @@ fn unit_of(state: State, code: u8, body: &[u8], end: usize) -> Result<NextUnit, 
                 length: length_in(scope_in(state), kind, body),
             })
         }
-        UnitKind::Unknown => Err(Reason::Unknown),
+        None => Err(Reason::Unknown),
     }
 }
 

@@ -3,8 +3,8 @@ use mathlib.Core.Path.{refl, sym, ap, ◌∙◌}
 use Rattle.startcode.specs.Kinds.{kind_says}
 use Rattle.groups.proofs.in_group_head.Goals as goal
 
-pub returns-in-Is : goal.returns-in-Is
-returns-in-Is c = rw (sym c.kind_of.ensures ∙ ap kind_says c.in-Is.is) c.head_unit.ensures
+pub returns-in-Some : goal.returns-in-Some
+returns-in-Some c = rw (sym c.kind_of.ensures ∙ ap kind_says c.in-Some.is) c.head_unit.ensures
 
-pub returns-in-Unknown : goal.returns-in-Unknown
-returns-in-Unknown c = rw (sym c.kind_of.ensures ∙ ap kind_says c.in-Unknown.is) (λ rest. refl)
+pub returns-in-None : goal.returns-in-None
+returns-in-None c = rw (sym c.kind_of.ensures ∙ ap kind_says c.in-None.is) (λ rest. refl)

@@ -38,11 +38,8 @@ met c =
           record { after = omega arith; near = omega arith; leads = leads_on one run.leads (omega arith) (omega arith) }
     ]
 
-pub returns-then-n-le2 : goal.returns-then-n-le2
-returns-then-n-le2 c = ends_last (leads_none _ _) (omega arith)
-
-pub returns-then-n-from : goal.returns-then-n-from
-returns-then-n-from c = ends_last (leads_none _ _) (omega arith)
+pub returns-then-saturating_sub-from : goal.returns-then-saturating_sub-from
+returns-then-saturating_sub-from c = ends_last (leads_none _ _) (omega arith)
 
 pub loop-third-init : goal.loop-third-init
 loop-third-init c = (search rules, omega arith, leads_on (leads_none _ _) (leads_none _ _) (omega arith) refl)

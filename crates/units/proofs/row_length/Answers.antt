@@ -4,8 +4,8 @@ use Rattle.startcode.specs.Kinds.{kind_says}
 use Rattle.units.proofs.LengthLaws.{length_by}
 use Rattle.units.proofs.row_length.Goals as goal
 
-pub returns-in-Is : goal.returns-in-Is
-returns-in-Is c = let a = c.args in c.length_in.ensures ∙ length_by a.scope _ (record { code = a.code; body = a.body.now }) (sym c.kind_of.ensures ∙ ap kind_says c.in-Is.is)
+pub returns-in-Some : goal.returns-in-Some
+returns-in-Some c = let a = c.args in c.length_in.ensures ∙ length_by a.scope _ (record { code = a.code; body = a.body.now }) (sym c.kind_of.ensures ∙ ap kind_says c.in-Some.is)
 
-pub returns-in-Unknown : goal.returns-in-Unknown
-returns-in-Unknown c = let a = c.args in c.trimmed_length.ensures ∙ length_by a.scope _ (record { code = a.code; body = a.body.now }) (sym c.kind_of.ensures ∙ ap kind_says c.in-Unknown.is)
+pub returns-in-None : goal.returns-in-None
+returns-in-None c = let a = c.args in c.trimmed_length.ensures ∙ length_by a.scope _ (record { code = a.code; body = a.body.now }) (sym c.kind_of.ensures ∙ ap kind_says c.in-None.is)

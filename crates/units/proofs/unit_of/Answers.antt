@@ -25,8 +25,8 @@ module _ (t : After-in_state) where
   abbrev the_length : ℕ
   the_length = row_length (placed (scope_in t.args.state u) u)
 
-  is : kind_of u.code ≡ done t.in-Is.kind
-  is = sym t.kind_of.ensures ∙ ap kind_says t.in-Is.is
+  is : kind_of u.code ≡ done t.in-Some.kind
+  is = sym t.kind_of.ensures ∙ ap kind_says t.in-Some.is
 
   answered : {y : Step} → t.in_state.result ≡ y → next_of y t.args.end the_length ≡ unit_from t.args.state u t.args.end
   unfolding step
@@ -34,19 +34,19 @@ module _ (t : After-in_state) where
       ap (λ (y : Step). next_of y t.args.end the_length)
       (sym e ∙ t.in_state.ensures ∙ ap (λ (o : Outcome Kind). by_kind o (λ k. choose k (table t.args.state u))) (sym is))
 
-pub returns-in_ok-next-in-Is : goal.returns-in_ok-next-in-Is
-returns-in_ok-next-in-Is c =
-    let t = (goal.at.returns-in_ok-next-in-Is c).After-in_state in
+pub returns-in_ok-next-in-Some : goal.returns-in_ok-next-in-Some
+returns-in_ok-next-in-Some c =
+    let t = (goal.at.returns-in_ok-next-in-Some c).After-in_state in
     let b = (u t).body in
-    ap (λ (n : ℕ). Ok (record { state = c.in_ok-next-in-Is.next; end = c.args.end; length = n }))
-    (c.length_in.ensures ∙ ap (λ (p : Scope). length (cond (whole_body (done c.in-Is.kind) p b) b (trimmed b))) c.scope_in.ensures ∙ length_same c.args.state c.in-Is.kind (u t) (is t))
-    ∙ answered t c.in_ok-next-in-Is.was
+    ap (λ (n : ℕ). Ok (record { state = c.in_ok-next-in-Some.next; end = c.args.end; length = n }))
+    (c.length_in.ensures ∙ ap (λ (p : Scope). length (cond (whole_body (done c.in-Some.kind) p b) b (trimmed b))) c.scope_in.ensures ∙ length_same c.args.state c.in-Some.kind (u t) (is t))
+    ∙ answered t c.in_ok-next-in-Some.was
 
-pub returns-in_err-next-in-Is : goal.returns-in_err-next-in-Is
-returns-in_err-next-in-Is c =
+pub returns-in_err-next-in-Some : goal.returns-in_err-next-in-Some
+returns-in_err-next-in-Some c =
     let p = err_from_is_err_and c.from_residual.result c.from_residual.ensures.1 in
-    rw (p.1, p.2) (answered (goal.at.returns-in_err-next-in-Is c).After-in_state c.in_err-next-in-Is.was)
+    rw (p.1, p.2) (answered (goal.at.returns-in_err-next-in-Some c).After-in_state c.in_err-next-in-Some.was)
 
-pub returns-in-Unknown : goal.returns-in-Unknown
+pub returns-in-None : goal.returns-in-None
 unfolding step
-returns-in-Unknown c = rw (sym c.kind_of.ensures ∙ ap kind_says c.in-Unknown.is)
+returns-in-None c = rw (sym c.kind_of.ensures ∙ ap kind_says c.in-None.is)
