@@ -5,11 +5,11 @@ use mathlib.Core.List.{List, [], ◌∷◌, ◌++◌, append_assoc, append-nil}
 use mathlib.Core.Bool.{true, cond, ◌&&◌, and-false}
 use native.Mathlib.Omega.{arith}
 use native.Mathlib.Numerals.{add-one}
-use native.Mathlib.Nat.{mod-lt, mul-mod_left}
+use native.Mathlib.Nat.{mul-mod_left}
 use lib.Bits.{and_mask, bit_and}
 use lib.Dec.{eqb, leb}
 use lib.ListN.{length, get_or, take, drop, set, length-append, length-set, drop_of_length-le, take-append-drop}
-use lib.Pow.{pow_pos, shl-shr, mod-mod-pow, mod-pow-add}
+use lib.Pow.{shl-shr, mod-mod-pow, mod-pow-add}
 use lib.Seq.{take_all, take-suc-set, drop-set-lt, drop-drop, length-take-le, set_split}
 use borrow.Author.Tests.{le-leb, lt-ltb, le-ltb}
 use Rattle.answers.specs.Answers.{done, refused, FULL, TOO_LONG}
@@ -18,10 +18,10 @@ use Rattle.bits.specs.Bits.{bits_in, pack_on, pack}
 use Rattle.bits.proofs.ListLaws.{at_head}
 use Rattle.bits.proofs.TestLaws.{by_test}
 use Rattle.bits.proofs.BitLaws.{length_in, bit_in}
-use Rattle.bits.proofs.PackingLaws.{pack_few, pack_over, pack_none, pack_last}
+use Rattle.bits.proofs.PackingLaws.{pack_few, pack_over, pack_last}
 use Rattle.payload.specs.Escape.{kept, copied, unescaped, removal}
-use Rattle.payload.specs.Inside.{kept_width, Partial, waits, Joined, Pushed, Copied, Filled}
-use Rattle.payload.specs.declared.Packer.{Packer}
+use Rattle.payload.specs.Inside.{kept_width, waiting, Joined, Pushed, Copied, Filled}
+use Rattle.payload.specs.declared.packer.Packer.{Packer}
 
 -- ── the bits of a byte ──
 
@@ -34,47 +34,62 @@ take_bits b j h = let l = length_in 8 b in length-take-le j (bits_in 8 b) (omega
 
 -- ── bits are pushed ──
 
-module _ (out : List ℕ) (full value k byte width v : ℕ) (few : k < 8) (g : Joined value byte width v) where
+-- bits that wait are a byte that is not full yet
+pack_waits : (value k : ℕ) (rest : List ℕ) → k < 8 → pack (bits_in k value ++ rest) ≡ pack_on (value % 2 ^ k) k rest
+pack_waits value k rest few =
+    let n : 0 * 2 ^ k + value % 2 ^ k ≡ value % 2 ^ k = omega arith in
+    let z : 0 + k ≡ k = omega arith in
+    pack_few k 0 0 value rest (omega arith) ∙ rw (n, z)
+
+module _ (out : List ℕ) (p : Packer) (byte width v : ℕ) (g : Joined p.value byte width v) where
   -- what the bits above those of the byte are
-  older : v / 2 ^ width % 2 ^ k ≡ value % 2 ^ k
+  older : v / 2 ^ width % 2 ^ p.k ≡ p.value % 2 ^ p.k
   older =
-      let e : 8 - k + k ≡ 8 = omega arith in
-      ap (λ (x : ℕ). x % 2 ^ k) g.older ∙ (rw e at (mod-mod-pow value (8 - k) k))
+      let few = p.few in
+      let e : 8 - p.k + p.k ≡ 8 = omega arith in
+      ap (λ (x : ℕ). x % 2 ^ p.k) g.older ∙ (rw e at (mod-mod-pow p.value (8 - p.k) p.k))
+
+  -- the bits that wait and these, with what follows
+  packed : (rest : List ℕ) → pack (waiting p ++ (take width (bits_in 8 byte) ++ rest)) ≡ pack_on (p.value % 2 ^ p.k) p.k (bits_in width v ++ rest)
+  packed rest =
+      pack_waits p.value p.k (take width (bits_in 8 byte) ++ rest) p.few ∙ ap (λ (y : List ℕ). pack_on (p.value % 2 ^ p.k) p.k (y ++ rest)) (sym g.bits)
 
   -- a byte gets full, and d bits wait then
-  pub pushed_out : (d : ℕ) → d + 8 ≡ k + width → width ≤ 8 → full < length out →
-      Pushed out (set out full (v / 2 ^ d % 256)) (waits (record { full = full; value = value; k = k })) (waits (record { full = full + 1; value = v; k = d })) (take width (bits_in 8 byte))
-  pushed_out d e m h =
+  pub pushed_out : (d : ℕ) (few : d < 8) → d + 8 ≡ p.k + width → width ≤ 8 → p.full < length out →
+      Pushed out (set out p.full (v / 2 ^ d % 256)) p (record { full = p.full + 1; value = v; k = d; few = few }) (take width (bits_in 8 byte))
+  pushed_out d few e m h =
       let x = v / 2 ^ d % 256 in
+      let k = p.k in
+      let before = p.few in
       let w : width ≡ suc (7 - k) + d = omega arith in
-      let o : v / 2 ^ (suc (7 - k) + d) % 2 ^ k ≡ value % 2 ^ k = rw w at older in
-      let bits : take width (bits_in 8 byte) ≡ bits_in (suc (7 - k) + d) v = sym g.bits ∙ ap (λ (n : ℕ). bits_in n v) w in
-      let t : take (full + 1) (set out full x) ≡ take full out ++ (x ∷ []) = rw add-one (take-suc-set out full x h) in
+      let o : v / 2 ^ (suc (7 - k) + d) % 2 ^ k ≡ p.value % 2 ^ k = rw w at older in
+      let t : take (p.full + 1) (set out p.full x) ≡ take p.full out ++ (x ∷ []) = rw add-one (take-suc-set out p.full x h) in
       let l = take_bits byte width m in
       record {
-        same = length-set out full x;
-        partial = record { few = omega arith; small = mod-lt v (pow_pos d) };
+        same = length-set out p.full x;
         count = omega arith;
         made = λ rest.
-            ap (λ (y : List ℕ). y ++ pack_on (v % 2 ^ d) d rest) t ∙ append_assoc (take full out) (x ∷ []) (pack_on (v % 2 ^ d) d rest)
-            ∙ ap (λ (y : List ℕ). take full out ++ y) (sym (pack_over (value % 2 ^ k) k (7 - k) d v rest (omega arith) (omega arith) o))
-            ∙ ap (λ (y : List ℕ). take full out ++ pack_on (value % 2 ^ k) k (y ++ rest)) (sym bits);
-        left = drop-set-lt (full + 1) out full x (omega arith);
+            ap (λ (y : List ℕ). y ++ pack (bits_in d v ++ rest)) t ∙ append_assoc (take p.full out) (x ∷ []) (pack (bits_in d v ++ rest))
+            ∙ ap (λ (y : List ℕ). take p.full out ++ (x ∷ y)) (pack_waits v d rest few)
+            ∙ ap (λ (y : List ℕ). take p.full out ++ y) (sym (pack_over (p.value % 2 ^ k) k (7 - k) d v rest (omega arith) few o))
+            ∙ ap (λ (n : ℕ). take p.full out ++ pack_on (p.value % 2 ^ k) k (bits_in n v ++ rest)) (sym w)
+            ∙ ap (λ (y : List ℕ). take p.full out ++ y) (sym (packed rest));
+        left = drop-set-lt (p.full + 1) out p.full x (omega arith);
       }
 
   -- none gets full, and all that come wait too
-  pub pushed_in : k + width < 8 →
-      Pushed out out (waits (record { full = full; value = value; k = k })) (waits (record { full = full; value = v; k = k + width })) (take width (bits_in 8 byte))
-  pushed_in m =
+  pub pushed_in : (few : p.k + width < 8) →
+      Pushed out out p (record { full = p.full; value = v; k = p.k + width; few = few }) (take width (bits_in 8 byte))
+  pushed_in few =
+      let k = p.k in
       let l = take_bits byte width (omega arith) in
-      let low : value % 2 ^ k * 2 ^ width + v % 2 ^ width ≡ v % 2 ^ (k + width) = ap (λ (x : ℕ). x * 2 ^ width + v % 2 ^ width) (sym older) ∙ sym (mod-pow-add v k width) in
+      let low : p.value % 2 ^ k * 2 ^ width + v % 2 ^ width ≡ v % 2 ^ (k + width) = ap (λ (x : ℕ). x * 2 ^ width + v % 2 ^ width) (sym older) ∙ sym (mod-pow-add v k width) in
       record {
         same = refl;
-        partial = record { few = m; small = mod-lt v (pow_pos (k + width)) };
         count = omega arith;
         made = λ rest.
-            ap (λ (y : List ℕ). take full out ++ y)
-            (sym (ap (λ (y : List ℕ). pack_on (value % 2 ^ k) k (y ++ rest)) (sym g.bits) ∙ pack_few width (value % 2 ^ k) k v rest m ∙ rw low));
+            ap (λ (y : List ℕ). take p.full out ++ y)
+            (pack_waits v (k + width) rest few ∙ sym (packed rest ∙ pack_few width (p.value % 2 ^ k) k v rest few ∙ rw low));
         left = refl;
       }
 
@@ -123,23 +138,22 @@ pub record Copying (raw out₀ out : List ℕ) (p : Packer) (zeros i : ℕ) : Ty
   pub run : zeros ≡ zero_run (earlier i raw)
   pub few : zeros ≤ i
   pub same : length out ≡ length out₀
-  pub partial : Partial p
   pub bound : p.full * 8 + p.k ≤ i * 8
   pub count : p.full * 8 + p.k + length (copied (earlier i raw) (drop i raw)) ≡ length (unescaped raw)
-  pub made : take p.full out ++ pack_on p.value p.k (copied (earlier i raw) (drop i raw)) ≡ pack (unescaped raw)
+  pub made : take p.full out ++ pack (waiting p ++ copied (earlier i raw) (drop i raw)) ≡ pack (unescaped raw)
   pub left : drop p.full out ≡ drop p.full out₀
 
-pub copying_start : (raw out : List ℕ) → Copying raw out out (record { full = 0; value = 0; k = 0 }) 0 0
-copying_start raw out =
+pub copying_start : (raw out : List ℕ) (p : Packer) → p.full ≡ 0 → p.k ≡ 0 → Copying raw out out p 0 0
+unfolding bits_in
+copying_start raw out p full k =
     record {
       at = omega arith;
       run = refl;
       few = omega arith;
       same = refl;
-      partial = record { few = omega arith; small = omega arith };
       bound = omega arith;
       count = omega arith;
-      made = refl;
+      made = rw (full, k) refl;
       left = refl;
     }
 
@@ -157,7 +171,7 @@ module _ (raw out₀ out : List ℕ) (p : Packer) (zeros i : ℕ) (g : Copying r
       let v = width_is zeros byte in
       let l = take_bits byte w (omega arith) in
       let next : earlier (i + 1) raw ≡ earlier (suc i) raw = ap (λ (j : ℕ). earlier j raw) (add-one i) in
-      let d : p.full + (p'.full - p.full) ≡ p'.full = omega (arith, u.count, u.partial.few, g.partial.few) in
+      let d : p.full + (p'.full - p.full) ≡ p'.full = omega (arith, u.count, p'.few, p.few) in
       let m : drop p'.full out ≡ drop p'.full out₀ =
       ap (λ (x : ℕ). drop x out) (sym d) ∙ sym (drop-drop (p'.full - p.full) p.full out) ∙ ap (drop (p'.full - p.full)) g.left
       ∙ drop-drop (p'.full - p.full) p.full out₀ ∙ ap (λ (x : ℕ). drop x out₀) d in
@@ -166,10 +180,9 @@ module _ (raw out₀ out : List ℕ) (p : Packer) (zeros i : ℕ) (g : Copying r
         run = z ∙ ap (λ (x : ℕ). cond (eqb byte 0) (x + 1) 0) g.run ∙ ap zero_run (sym next);
         few = by_test (eqb byte 0) (λ t. let y : zeros' ≡ zeros + 1 = z ∙ rw t in omega (arith, g.few)) (λ f. let y : zeros' ≡ 0 = z ∙ rw f in omega arith);
         same = u.same ∙ g.same;
-        partial = u.partial;
         bound = omega (arith, u.count, g.bound);
         count = rw next (omega (arith, u.count, g.count));
-        made = rw next (u.made rest ∙ ap (λ (x : List ℕ). take p.full out ++ pack_on p.value p.k x) (sym head) ∙ g.made);
+        made = rw next (u.made rest ∙ ap (λ (x : List ℕ). take p.full out ++ pack (waiting p ++ x)) (sym head) ∙ g.made);
         left = u.left ∙ m;
       }
 
@@ -183,10 +196,9 @@ module _ (raw out₀ out : List ℕ) (p : Packer) (zeros i : ℕ) (g : Copying r
       let n : length (copied (earlier i raw) (drop i raw)) ≡ 0 = ap length none in
       record {
         same = g.same;
-        partial = g.partial;
         count = omega (arith, g.count);
         within = omega (arith, g.bound, g.at);
-        made = rw none at g.made;
+        made = rw (none, append-nil) at g.made;
         left = g.left;
       }
 
@@ -201,30 +213,37 @@ last_is v k few =
     mod-mod-pow (v * 2 ^ d) 24 8 ∙ (rw e at (mod-pow-add (v * 2 ^ d) k d)) ∙ rw (shl-shr v d, low) (omega arith)
 
 -- what is in the output then: no bit was left, or one byte more is written
+none_waits : (value k : ℕ) → k ≡ 0 → pack (bits_in k value) ≡ []
+unfolding bits_in pack_on
+none_waits value k h = rw h refl
+
 pub filled_none : (out : List ℕ) (p : Packer) → p.k ≡ 0 → Filled out out p
 filled_none out p h =
     let n : p.full + 0 ≡ p.full = omega arith in
-    rw (pack_none p.value p.k h, append-nil, n) (sym (take-append-drop p.full out))
+    rw (none_waits p.value p.k h, append-nil, n) (sym (take-append-drop p.full out))
 
-pub filled_last : (out : List ℕ) (p : Packer) (v : ℕ) → (p.k ≡ 0 → ⊥) → p.full < length out → v ≡ p.value * 2 ^ (8 - p.k) → Filled out (set out p.full v) p
-filled_last out p v h r e =
-    rw (pack_last p.value p.k h, add-one, ← e) (set_split out p.full v r ∙ sym (append_assoc (take p.full out) (v ∷ []) (drop (suc p.full) out)))
+pub filled_last : (out : List ℕ) (p : Packer) → (p.k ≡ 0 → ⊥) → p.full < length out →
+    Filled out (set out p.full (p.value * 2 ^ (8 - p.k) % 4294967296 % 256)) p
+filled_last out p h r =
+    let v = p.value * 2 ^ (8 - p.k) % 4294967296 % 256 in
+    let last : pack (waiting p) ≡ v ∷ [] =
+    ap pack (sym (append-nil (waiting p))) ∙ pack_waits p.value p.k [] p.few ∙ pack_last (p.value % 2 ^ p.k) p.k h ∙ ap (λ (x : ℕ). x ∷ []) (sym (last_is p.value p.k p.few)) in
+    rw (last, add-one) (set_split out p.full v r ∙ sym (append_assoc (take p.full out) (v ∷ []) (drop (suc p.full) out)))
 
 -- ── the whole output ──
 
 -- after the last byte is written, the output is the packed bits and the later bytes
-pub output_made : (raw out₀ out : List ℕ) (p : Packer) → Copied raw out₀ out p → length raw ≤ length out₀ →
-    take p.full out ++ pack_on p.value p.k [] ++ drop (p.full + length (pack_on p.value p.k [])) out
-    ≡ pack (unescaped raw) ++ drop (length (pack (unescaped raw))) out₀
-output_made raw out₀ out p g h =
-    let few = g.partial.few in
+pub output_made : (raw out₀ out after : List ℕ) (p : Packer) → Copied raw out₀ out p → length raw ≤ length out₀ → Filled out after p →
+    after ≡ pack (unescaped raw) ++ drop (length (pack (unescaped raw))) out₀
+output_made raw out₀ out after p g h written =
+    let few = p.few in
     let t : length (take p.full out) ≡ p.full = length-take-le p.full out (omega (arith, g.within, g.same)) in
-    let last = pack_on p.value p.k [] in
+    let last = pack (waiting p) in
     let n : p.full + length last ≡ length (pack (unescaped raw)) =
     ap (λ (x : ℕ). x + length last) (sym t) ∙ sym (length-append (take p.full out) last) ∙ ap length g.made in
     let d : drop (p.full + length last) out ≡ drop (p.full + length last) out₀ =
     sym (drop-drop (length last) p.full out) ∙ ap (drop (length last)) g.left ∙ drop-drop (length last) p.full out₀ in
-    ap (λ (x : List ℕ). x ++ drop (p.full + length last) out) g.made ∙ ap (λ (x : List ℕ). pack (unescaped raw) ++ x) d ∙ ap (λ (x : ℕ). pack (unescaped raw) ++ drop x out₀) n
+    written ∙ ap (λ (x : List ℕ). x ++ drop (p.full + length last) out) g.made ∙ ap (λ (x : List ℕ). pack (unescaped raw) ++ x) d ∙ ap (λ (x : ℕ). pack (unescaped raw) ++ drop x out₀) n
 
 -- ── the answer ──
 

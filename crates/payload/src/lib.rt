@@ -3,13 +3,16 @@
 
 ghost use Rattle.std.specs.Prelude.{◌≡◌, cond, [], ◌++◌, ◌+◌, ◌*◌, ◌≤◌, ◌<◌, eqb, length, get_or, take, drop};
 ghost use Rattle.answers.specs.Limits.{longest_payload};
-ghost use Rattle.bits.specs.Bits.{bits_in, payload};
+ghost use Rattle.bits.specs.Bits.{payload};
 ghost use Rattle.payload.specs.Escape.{removal, output_after, removed_says};
 ghost use Rattle.payload.specs.Golomb.{golomb_says, read_refused, stands_for};
 ghost use Rattle.payload.specs.Reader.{zeros_on, golomb, signed_golomb};
-ghost use Rattle.payload.specs.Inside.{kept_width, waits, Joined, Pushed, Copied, Filled};
+ghost use Rattle.payload.specs.Inside.{kept_width, Copied};
+
+mod packer;
 
 use bits::{Payload, ReadError};
+use packer::Packer;
 
 // The most bytes of a payload.
 const LIMIT: usize = 65536;
@@ -21,84 +24,6 @@ const LIMIT: usize = 65536;
 pub enum RemovalError {
     Full,
     TooLong,
-}
-
-// `full` bytes are written; the last k bits of `value` wait to be, and older ones are out already.
-#[derive(Clone, Copy)]
-struct Packer {
-    full: usize,
-    value: u32,
-    k: u32,
-}
-
-// The bit at place j of a byte.
-fn bit_of(byte: u8, j: u32) -> u32
-    requires { j < 8 }
-    ensures { (result ≡ get_or (bits_in 8 byte) j 0) × (result < 2) }
-{
-    u32::from(byte) >> (7 - j) & 1
-}
-
-// The last eight bits of v, and after them the first width bits of a byte, one a turn.
-fn joined(v: u32, byte: u8, width: u32) -> u32
-    requires { width ≤ 8 }
-    ensures { Joined v byte width result }
-{
-    let mut w = v % 256;
-    for j in 0..width {
-        w = (w << 1) + bit_of(byte, j);
-    }
-    w
-}
-
-impl Packer {
-    // The first WIDTH bits of a byte are pushed, and the oldest eight that wait then go out, if there are as many.
-    fn push<const WIDTH: u32>(self, out: &mut [u8], byte: u8) -> Packer
-        requires { (self.k < 8) × (self.full < length out.old) × (WIDTH ≤ 8) }
-        ensures { Pushed out.old out.new (waits self) (waits result) (take WIDTH (bits_in 8 byte)) }
-    {
-        let value = joined(self.value, byte, WIDTH);
-        let missing = 8 - WIDTH;
-        if self.k < missing {
-            return Packer {
-                full: self.full,
-                value,
-                k: self.k + WIDTH,
-            };
-        }
-        let k = self.k - missing;
-        out[self.full] = ((value >> k) % 256) as u8;
-        Packer {
-            full: self.full + 1,
-            value,
-            k,
-        }
-    }
-
-    // Bits that stay of a byte after so many raw bytes 00 are pushed.
-    fn push_kept(self, out: &mut [u8], byte: u8, zeros: usize) -> Packer
-        requires { (self.k < 8) × (self.full < length out.old) }
-        ensures { Pushed out.old out.new (waits self) (waits result) (take (kept_width zeros byte) (bits_in 8 byte)) }
-    {
-        if kept_width(zeros, byte) == 8 {
-            self.push::<8>(out, byte)
-        } else {
-            self.push::<6>(out, byte)
-        }
-    }
-
-    // The last byte is filled with zeros and written; the answer is the bit count.
-    fn fill(self, out: &mut [u8]) -> usize
-        requires { (self.k < 8) × (self.full * 8 + self.k ≤ length out.old * 8) × (self.full ≤ longest_payload) }
-        ensures count { result ≡ self.full * 8 + self.k }
-        ensures written { Filled out.old out.new (waits self) }
-    {
-        if self.k == 0 {
-            return self.full * 8;
-        }
-        out[self.full] = ((self.value << (8 - self.k)) % 256) as u8;
-        self.full * 8 + self.k as usize
-    }
 }
 
 // How many bits stay of a byte after so many raw bytes 00.
@@ -122,13 +47,9 @@ fn zeros_after(zeros: usize, byte: u8) -> usize
 // The bits that stay are pushed; the last byte may be still to be written.
 fn copy_bits(raw: &[u8], out: &mut [u8]) -> Packer
     requires { (length raw.now ≤ longest_payload) × (length raw.now ≤ length out.old) }
-    ensures { Copied raw.now out.old out.new (waits result) }
+    ensures { Copied raw.now out.old out.new result }
 {
-    let mut packer = Packer {
-        full: 0,
-        value: 0,
-        k: 0,
-    };
+    let mut packer = Packer::new();
     let mut zeros: usize = 0;
     for &byte in raw {
         packer = packer.push_kept(out, byte, zeros);

@@ -6,7 +6,6 @@ use native.Mathlib.Omega.{arith}
 use lib.ListN.{length}
 use Rattle.answers.specs.Answers.{Outcome, done}
 use Rattle.payload.specs.Escape.{output_after, removal}
-use Rattle.payload.specs.Inside.{waits}
 use Rattle.payload.proofs.EscapeLaws.{removal_long, removal_full, removal_done, output_made}
 use Rattle.payload.proofs.remove_escapes.Goals as goal
 
@@ -27,7 +26,7 @@ returns-then-out-raw c =
 pub fill-requires : goal.fill-requires
 fill-requires c =
     let g = c.copy_bits-packer.ensures in
-    (g.partial.few, omega (arith, g.within, g.same), omega (arith, g.within))
+    (omega (arith, g.within, g.same), omega (arith, g.within))
 
 pub returns : goal.returns
 returns c =
@@ -37,5 +36,5 @@ returns c =
     let e = removal_done a.raw.now a.out.now c.if-raw-gt-LIMIT.false c.if-out-raw.false ∙ ap done (sym (f.count ∙ g.count)) in
     record {
       answer = sym e;
-      output = settled a.raw.now a.out.now _ _ e (f.written ∙ output_made a.raw.now a.out.now _ (waits c.copy_bits-packer.result) g c.if-out-raw.false);
+      output = settled a.raw.now a.out.now _ _ e (output_made a.raw.now a.out.now _ _ c.copy_bits-packer.result g c.if-out-raw.false f.written);
     }
