@@ -133,6 +133,7 @@ pub fn group(stream: &[u8], g: usize, numbers: &mut [u64]) -> Answer
 }
 
 // A sequence header's body.
+#[tactic(auto, unfolding(bodies::specs::Reader::header_of, bodies::specs::Answers::answer_of, crate::specs::Numbers::header_numbers, crate::specs::Answers::answered, crate::specs::Answers::after))]
 pub fn sequence_header(body: &[u8], numbers: &mut [u64]) -> Answer
     ensures answer { result ≡ answered (map_done header_numbers (reader.header_of body.now)) numbers.old }
     ensures numbers { numbers.new ≡ after (map_done header_numbers (reader.header_of body.now)) numbers.old }
@@ -150,6 +151,7 @@ fn scope_for(head: bool) -> Scope
 }
 
 // An extension's body: its number, and what it says where it is not opaque.
+#[tactic(auto, unfolding(bodies::specs::Reader::extension_of, bodies::specs::Answers::answer_of, crate::specs::Answers::answered, crate::specs::Answers::after))]
 pub fn extension(body: &[u8], head: bool, numbers: &mut [u64]) -> Answer
     ensures answer { result ≡ answered (map_done extension_numbers (reader.extension_of (scope_for head) body.now)) numbers.old }
     ensures numbers { numbers.new ≡ after (map_done extension_numbers (reader.extension_of (scope_for head) body.now)) numbers.old }
