@@ -104,7 +104,7 @@ struct Missed<'a> {
     ghost misses: { misses_of at.state (of_split split) ≡ true },
 }
 
-// The most bytes of a payload.
+// The most bytes of a payload. The crate payload has its own, and neither stands on the other.
 const LIMIT: usize = 65536;
 
 // The most bits of a payload.
@@ -155,7 +155,8 @@ impl Limited<'_> {
         }
     }
 
-    // Doubles the value, with the next bits, while it is below 256, and counts how often.
+    // Doubles the value, with the next bits, while it is below 256, and counts how often. Not one loop with widen: what keeps the sums
+    // of each within their sizes differs, and a trait with that as laws is longer than both.
     fn normalise(self, value: u32, place: usize) -> Result<Shift, Refusal>
         requires { (place ≤ length (held self.bits)) × (value < 1048576) }
         ensures { says itself result ≡ normalise_of (held self.entry.bits) value place }
