@@ -105,8 +105,8 @@ def value(text, function, pattern=""):
 def items(text, function, pattern, without):
     """The words that a definition lists in order, each after what it belongs to: HEADER_LEVEL. Lists in it are expanded; those in
     `without` are not given."""
-    wanted = r"\bNone\b|\.NotGiven\b" if function in without else re.escape(pattern)
-    right = next(right for left, right in clauses(text, function) if re.search(wanted, left))
+    wanted = "None" if function in without else pattern
+    right = next(right for left, right in clauses(text, function) if wanted in left)
     prefix = capitals(function.replace("_numbers", ""))
     for item in re.split(r"∷|\+\+", right):
         inner = re.match(r"\s*(\w+_numbers) ", item)
@@ -144,7 +144,7 @@ def indices():
         yield count, len(listed(function))
     for i, word in enumerate(listed("group_numbers")):
         yield word if word.startswith("HEADER_") else f"GROUP_{word}", i
-    for pattern in ("(display d)", "(copyright c)"):
+    for pattern in ("(extensionBody.Display d)", "(extensionBody.Copyright c)"):
         for i, word in enumerate(listed("extension_numbers", pattern)):
             yield "EXTENSION_NUMBER" if i == 0 else f"EXTENSION_{word}", i
 
@@ -154,10 +154,10 @@ def counts():
     yield "GROUP_PLAIN", len(listed("group_numbers", without=("shown_numbers",)))
     yield "GROUP_WITH_DISPLAY", len(listed("group_numbers", without=("colour_numbers",)))
     yield "GROUP_WITH_COLOUR", len(listed("group_numbers"))
-    yield "EXTENSION_OPAQUE", len(listed("extension_numbers", "(opaque number)"))
-    yield "EXTENSION_COPYRIGHT", len(listed("extension_numbers", "(copyright c)"))
-    yield "EXTENSION_DISPLAY", len(listed("extension_numbers", "(display d)", ("colour_numbers",)))
-    yield "EXTENSION_WITH_COLOUR", len(listed("extension_numbers", "(display d)"))
+    yield "EXTENSION_OPAQUE", len(listed("extension_numbers", "(extensionBody.Opaque number)"))
+    yield "EXTENSION_COPYRIGHT", len(listed("extension_numbers", "(extensionBody.Copyright c)"))
+    yield "EXTENSION_DISPLAY", len(listed("extension_numbers", "(extensionBody.Display d)", ("colour_numbers",)))
+    yield "EXTENSION_WITH_COLOUR", len(listed("extension_numbers", "(extensionBody.Display d)"))
 
 
 def named():

@@ -104,7 +104,7 @@ struct Missed<'a> {
     ghost misses: { misses_of at.state (of_split split) ≡ true },
 }
 
-// The most bytes of a payload.
+// The most bytes of a payload. The crate payload has its own, and neither stands on the other.
 const LIMIT: usize = 65536;
 
 // The most bits of a payload.
@@ -155,7 +155,8 @@ impl Limited<'_> {
         }
     }
 
-    // Doubles the value, with the next bits, while it is below 256, and counts how often.
+    // Doubles the value, with the next bits, while it is below 256, and counts how often. Not one loop with widen: what keeps the sums
+    // of each within their sizes differs, and a trait with that as laws is longer than both.
     fn normalise(self, value: u32, place: usize) -> Result<Shift, Refusal>
         requires { (place ≤ length (held self.bits)) × (value < 1048576) }
         ensures { says itself result ≡ normalise_of (held self.entry.bits) value place }
@@ -441,14 +442,14 @@ trait Contexts: Copy {
 
     ghost update: { Self → ℕ → Self };
 
-    fn is_good(self) -> bool
+    fn are_good(self) -> bool
         ensures { result ≡ good self };
 
     fn prediction(self) -> Prediction
         requires { good self ≡ true }
         ensures { of_prediction result ≡ predicts self };
 
-    fn updated(self, bin: u32) -> Self
+    fn after(self, bin: u32) -> Self
         requires { good self ≡ true }
         ensures { result ≡ update self bin };
 }
@@ -460,7 +461,7 @@ impl Contexts for Context {
 
     ghost update = { update_of };
 
-    fn is_good(self) -> bool {
+    fn are_good(self) -> bool {
         self.is_good()
     }
 
@@ -471,7 +472,7 @@ impl Contexts for Context {
         }
     }
 
-    fn updated(self, bin: u32) -> Context {
+    fn after(self, bin: u32) -> Context {
         self.updated(bin)
     }
 }
@@ -483,7 +484,7 @@ impl Contexts for Pair {
 
     ghost update = { update_pair };
 
-    fn is_good(self) -> bool {
+    fn are_good(self) -> bool {
         contexts::good_pair(self.first, self.second)
     }
 
@@ -508,7 +509,7 @@ impl Contexts for Pair {
         Prediction { p: b.mps, lg }
     }
 
-    fn updated(self, bin: u32) -> Pair {
+    fn after(self, bin: u32) -> Pair {
         Pair {
             first: self.first.updated(bin),
             second: self.second.updated(bin),
@@ -520,7 +521,7 @@ impl Contexts for Pair {
 fn bin_by<C: Contexts>(bits: Payload<'_>, x: State, contexts: C) -> Result<Decoded<C>, Refusal>
     ensures { says of_bin result ≡ bin_by C.good C.predicts C.update bits.entry.bytes.now bits.entry.count x contexts }
 {
-    let at = guard(bits, x, contexts.is_good())?;
+    let at = guard(bits, x, contexts.are_good())?;
     let g = contexts.prediction();
     let done = match at.step(g, at.split(g)) {
         Some(done) => done,
@@ -529,7 +530,7 @@ fn bin_by<C: Contexts>(bits: Payload<'_>, x: State, contexts: C) -> Result<Decod
     Ok(Decoded {
         bin: done.bin,
         state: done.state,
-        contexts: contexts.updated(done.bin),
+        contexts: contexts.after(done.bin),
     })
 }
 

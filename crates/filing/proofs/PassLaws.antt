@@ -37,7 +37,7 @@ use Rattle.units.specs.Reader.{unit_at}
 use Rattle.units.specs.declared.NextUnit.{NextUnit}
 use Rattle.filing.specs.Filing.{words_after}
 use Rattle.filing.specs.declared.Refusal.{Refusal}
-use Rattle.filing.specs.Inside.{unit_or_refusal, offset_of, short_span, Spans, Kept, checked_gives, Passed, scope_after, Writable}
+use Rattle.filing.specs.Inside.{unit_or_refusal, offset_of, short_span, Spans, Kept, Passed, scope_after, Writable}
 
 pub any_left : (s : List ℕ) → begins s ≡ true → walk_of_any s ≡ left s Start 0
 unfolding walk_of_any left

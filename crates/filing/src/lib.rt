@@ -133,27 +133,13 @@ fn put_row(rows: &mut [u32], i: usize, code: u8, offset: usize, length: usize)
 }
 
 // The scope of the extensions after a unit: a sequence header begins a group's head, a picture ends it.
-fn after_kind(scope: Scope, kind: Kind) -> Scope
-    ensures { result ≡ scope_after scope (done kind) }
-{
-    match kind {
-        Kind::Slice => scope,
-        Kind::SequenceHeader => Scope::Head,
-        Kind::SequenceEnd => scope,
-        Kind::UserData => scope,
-        Kind::IPicture => Scope::Picture,
-        Kind::Extension => scope,
-        Kind::PBPicture => Scope::Picture,
-        Kind::EditCode => scope,
-    }
-}
-
 fn scope_after(scope: Scope, code: u8) -> Scope
     ensures { result ≡ scope_after scope (kind_of code) }
 {
     match startcode::kind_of(code) {
-        Some(kind) => after_kind(scope, kind),
-        None => scope,
+        Some(Kind::SequenceHeader) => Scope::Head,
+        Some(Kind::IPicture | Kind::PBPicture) => Scope::Picture,
+        _ => scope,
     }
 }
 

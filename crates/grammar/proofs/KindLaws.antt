@@ -1,14 +1,13 @@
 -- Kinds of unit are told apart, and a sequence header is told by its code byte.
 use Prim.Native.Nat.{ℕ}
-use mathlib.Core.Path.{◌≡◌, refl, sym, ◌∙◌, ap, subst}
+use mathlib.Core.Path.{◌≡◌, refl, sym, ◌∙◌, ap}
 use mathlib.Core.Logic.{◌⊎◌, inl, inr, ◌↔◌}
-use mathlib.Core.List.{List, [], ◌∷◌, map}
-use mathlib.Core.Bool.{Bool, true, false, cond, ◌&&◌, not}
+use mathlib.Core.List.{List, [], ◌∷◌}
+use mathlib.Core.Bool.{Bool, true, false, cond, ◌&&◌}
 use native.Mathlib.Omega.{arith}
 use borrow.Author.Tests.{eqb-true, eq-eqb, leb-true}
-use lib.Dec.{T, leb, eqb}
+use lib.Dec.{leb, eqb}
 use Rattle.answers.specs.Answers.{Outcome, done, refused, UNKNOWN}
-use Rattle.bits.specs.Lists.{All}
 use Rattle.answers.proofs.OutcomeLaws.{undone, done_one, not_done}
 use Rattle.bits.proofs.TestLaws.{by_test, and_true}
 use Rattle.startcode.specs.Kinds.{Codes, kind_in, kinds, kind_of}
@@ -42,10 +41,6 @@ same_true j k t = undone kind_index kind_at index_undone j k (eqb-true (kind_ind
 
 pub true_same : (j k : Kind) → j ≡ k → same_kind j k ≡ true
 true_same j k e = eq-eqb (kind_index j) (kind_index k) (ap kind_index e)
-
--- a kind that is not another is found to be none of it
-pub other_kind : (k j : Kind) → ¬ (k ≡ j) → same_kind k j ≡ false
-other_kind k j n = by_test (same_kind k j) (λ t. absurd (n (same_true k j t))) (λ f. f)
 
 -- no unit has two kinds
 pub apart : {P : Type 0} {o : Outcome Kind} (j k : Kind) → same_kind j k ≡ false → o ≡ done j → o ≡ done k → P

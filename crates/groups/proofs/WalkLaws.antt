@@ -1,5 +1,5 @@
 -- The walk by index: the unit at an offset, and those after it.
-use Rattle.std.proofs.Common.{Option, None}
+use Rattle.std.proofs.Common.{None}
 use Prim.Native.Nat.{ℕ, zero, suc, ◌≤◌, ◌<◌, ◌+◌, ◌-◌}
 use mathlib.Core.Path.{◌≡◌, refl, sym, ◌∙◌, ap}
 use mathlib.Core.List.{List, [], ◌∷◌}
@@ -9,18 +9,15 @@ use lib.ListN.{length, drop}
 use lib.Seq.{drop-length}
 use borrow.Author.Tests.{ltb-true, ltb-false}
 use native.Mathlib.Omega.{arith}
-use Rattle.answers.specs.Answers.{done, refused, NO_ROW}
-use Rattle.bits.proofs.TestLaws.{by_test, contrary}
+use Rattle.answers.specs.Answers.{refused, NO_ROW}
+use Rattle.bits.proofs.TestLaws.{by_test}
 use Rattle.startcode.specs.Kinds.{kind_of}
 use Rattle.startcode.specs.Prefix.{begins, next_prefix}
-use Rattle.startcode.specs.declared.Kind.{Kind}
-use Rattle.startcode.specs.declared.Kind.TheVariants as kind
 use Rattle.startcode.proofs.PrefixLaws.{search_start, search_hit}
 use Rattle.bodies.specs.Reader.{header_of}
 use Rattle.grammar.specs.Grammar.{StreamUnit}
-use Rattle.grammar.specs.Reader.{cut, same_kind}
+use Rattle.grammar.specs.Reader.{cut}
 use Rattle.grammar.proofs.WalkLaws.{prefix_fits, chunks_cut, chunks_overlap, unit_between, next_fits, chunks_unit, next_begins}
-use Rattle.bodies.specs.declared.DisplayExtension.{DisplayExtension}
 use Rattle.groups.specs.Reader.{in_head, display_in, group_of, begins_group, group_in}
 use Rattle.groups.specs.Inside.{units_in, units_from, Here}
 
@@ -52,11 +49,6 @@ units_end s at h l =
 
 -- ── a unit ──
 
--- the unit at an offset, and where the next one begins
-pub record Walked (s : List ℕ) (at next : ℕ) : Type 0 where
-  pub units : units_from s at ≡ unit_between s at next ∷ units_from s next
-  pub here : Here s next
-
 module _ (s : List ℕ) (at : ℕ) (h : Here s at) (l : at + 3 < length s) where
   abbrev next : ℕ
   next = next_prefix s (at + 3)
@@ -75,15 +67,19 @@ module _ (s : List ℕ) (at : ℕ) (h : Here s at) (l : at + 3 < length s) where
   unfolding units_in units_from
   unit_units b = from_chunks s at _ (chunks_unit s at prefixed l b)
 
-  pub units_over : (end : ℕ) → end ≡ next → end < at + 4 → units_from s at ≡ []
-  units_over end e k =
-      by_test (begins (drop (at + 3) s)) over_units (λ f. let d = (next_fits s at prefixed l f).0 in absurd (omega arith))
+  -- an empty chunk is no unit
+  pub units_none : (end : ℕ) → end ≡ next → ¬ ((at + 4 ≤ end) × (end ≤ length s)) → units_from s at ≡ []
+  units_none end e n =
+      by_test (begins (drop (at + 3) s)) over_units (λ f. let d = next_fits s at prefixed l f in absurd (n (omega (arith, d.0), omega (arith, d.1))))
 
-  pub walked : (end : ℕ) → end ≡ next → at + 4 ≤ end → Walked s at end
-  walked end e k =
+  -- the unit, and where the next one begins
+  pub units_more : (end : ℕ) → end ≡ next → at + 4 ≤ end → (units_from s at ≡ unit_between s at end ∷ units_from s end) × (Here s end × (at < end))
+  units_more end e k =
       by_test (begins (drop (at + 3) s))
       (λ t. let o = over_next t in absurd (omega arith))
-      (λ f. rw e (record { units = unit_units f; here = record { inside = (next_fits s at prefixed l f).1; prefix = next_begins s at prefixed l f } }))
+      (λ f.
+      let n : at < next = omega arith in
+      rw e (unit_units f, (record { inside = (next_fits s at prefixed l f).1; prefix = next_begins s at prefixed l f }, n)))
 
 -- ── a group's head ──
 
@@ -97,22 +93,10 @@ unfolding display_in
 show_end s from at h e = sym (h.same ∙ ap display_in e)
 
 -- one unit more
-pub show_next : (s : List ℕ) (from at next : ℕ) → Showing s from at → Walked s at next →
-    let u = unit_between s at next in
+pub show_next : (s : List ℕ) (from at next : ℕ) (u : StreamUnit) → Showing s from at → units_from s at ≡ u ∷ units_from s next →
     in_head (kind_of u.code) u.body (display_in (units_from s next)) ≡ display_in (units_from s from)
 unfolding display_in
-show_next s from at next h w = sym (h.same ∙ ap display_in w.units)
-
--- a unit of another kind than user data and extensions ends the head
-pub ends_head : (k : Kind) (body : List ℕ) (rest : Option DisplayExtension) → same_kind k kind.UserData ≡ false → same_kind k kind.Extension ≡ false → None ≡ in_head (done k) body rest
-ends_head kind.Slice body rest u x = refl
-ends_head kind.SequenceHeader body rest u x = refl
-ends_head kind.SequenceEnd body rest u x = refl
-ends_head kind.UserData body rest u x = contrary true refl u
-ends_head kind.IPicture body rest u x = refl
-ends_head kind.Extension body rest u x = contrary true refl x
-ends_head kind.PBPicture body rest u x = refl
-ends_head kind.EditCode body rest u x = refl
+show_next s from at next u h e = sym (h.same ∙ ap display_in e)
 
 -- ── groups ──
 
@@ -143,18 +127,15 @@ module _ (u : StreamUnit) (us : List StreamUnit) where
   unfolding group_in
   this_group skip t e = rw (e, t)
 
-module _ (s : List ℕ) (g skip at next : ℕ) (h : Counting s g skip at) (w : Walked s at next) where
-  abbrev u : StreamUnit
-  u = unit_between s at next
-
+module _ (s : List ℕ) (g skip at next : ℕ) (u : StreamUnit) (h : Counting s g skip at) (is : units_from s at ≡ u ∷ units_from s next) where
   step : group_in g (units_from s 0) ≡ group_in skip (u ∷ units_from s next)
-  step = h.same ∙ ap (group_in skip) w.units
+  step = h.same ∙ ap (group_in skip) is
 
-  pub count_other : begins_group u ≡ false → Counting s g skip next
-  count_other f = record { here = w.here; same = step ∙ past_other u (units_from s next) skip f }
+  pub count_other : Here s next → begins_group u ≡ false → Counting s g skip next
+  count_other k f = record { here = k; same = step ∙ past_other u (units_from s next) skip f }
 
-  pub count_group : begins_group u ≡ true → (skip ≡ 0 → ⊥) → Counting s g (skip - 1) next
-  count_group t n = record { here = w.here; same = step ∙ past_group u (units_from s next) skip t n }
+  pub count_group : Here s next → begins_group u ≡ true → (skip ≡ 0 → ⊥) → Counting s g (skip - 1) next
+  count_group k t n = record { here = k; same = step ∙ past_group u (units_from s next) skip t n }
 
   pub count_found : begins_group u ≡ true → skip ≡ 0 → group_of (header_of u.body) (display_in (units_from s next)) ≡ group_in g (units_from s 0)
   count_found t e = sym (step ∙ this_group u (units_from s next) skip t e)

@@ -6,7 +6,6 @@ use Rattle.answers.specs.Limits.{longest_stream}
 use Rattle.bits.specs.Lists.{All}
 use Rattle.bodies.specs.Bodies.{DisplayBody}
 use Rattle.bodies.specs.declared.DisplayExtension.{DisplayExtension}
-use Rattle.bodies.specs.declared.SequenceHeader.{SequenceHeader}
 use Rattle.grammar.specs.Grammar.{StreamUnit, Group, Reading, Reads, IsHeader, DisplayUnit}
 use Rattle.grammar.specs.Reasons.{reason_number, carries, ByNumber}
 use Rattle.grammar.specs.Refusals.{Refuses}

@@ -4,6 +4,7 @@ use Rattle.startcode.specs.Prefix.{begins}
 use Rattle.grammar.specs.Grammar.{StreamUnit}
 use Rattle.grammar.specs.Reader.{cut}
 use Rattle.bodies.specs.declared.DisplayExtension.{DisplayExtension}
+use Rattle.groups.specs.declared.UnitHere.{UnitHere}
 use Rattle.groups.specs.declared.InHead.{InHead}
 use Rattle.groups.specs.declared.InHead.TheVariants as in_head
 
@@ -21,6 +22,12 @@ units_from stream at = units_in (cut (drop at stream)).chunks
 pub record Here (stream : List ℕ) (at : ℕ) : Type 0 where
   pub inside : at ≤ length stream
   pub prefix : at < length stream → begins (drop at stream) ≡ true
+
+-- the first of the units from an offset on, and that the others begin where it ends; or there is none
+abbrev pub Stands : List ℕ → ℕ → Option UnitHere → Type 0
+Stands stream at (Some u) =
+    (units_from stream at ≡ record { code = u.code; body = u.body.now } ∷ units_from stream u.next) × (Here stream u.next × (at < u.next))
+Stands stream at None = units_from stream at ≡ []
 
 -- the display extension, by what a unit of the head says and by those after it
 abbrev pub display_by : InHead → Option DisplayExtension → Option DisplayExtension

@@ -9,7 +9,7 @@ ghost use Rattle.grammar.specs.Reader.{is_kind};
 ghost use Rattle.groups.specs.Groups.{group_says};
 ghost use Rattle.groups.specs.Reader.{shown, in_head, display_in, group_of, group_in, group_at};
 ghost use Rattle.groups.specs.declared.GroupError.TheVariants.{Refused};
-ghost use Rattle.groups.specs.Inside.{Tells, units_from, Here};
+ghost use Rattle.groups.specs.Inside.{Tells, units_from, Here, Stands};
 
 use bodies::{DisplayExtension, ExtensionBody, Scope, SequenceHeader};
 use filing::Refusal;
@@ -37,6 +37,14 @@ impl From<Refusal> for GroupError {
     }
 }
 
+// A unit as it stands in a stream, and where the next one begins.
+#[derive(Clone, Copy)]
+struct UnitHere<'a> {
+    code: u8,
+    body: &'a [u8],
+    next: usize,
+}
+
 // What a unit after a sequence header is: the display extension, another unit of the group's head, or past it.
 #[derive(Clone, Copy)]
 enum InHead {
@@ -47,23 +55,11 @@ enum InHead {
 
 // ── one unit ──
 
-fn is_header(kind: Kind) -> bool
-    ensures { result ≡ is_kind Kind.SequenceHeader (done kind) }
-{
-    match kind {
-        Kind::SequenceHeader => true,
-        _ => false,
-    }
-}
-
 // Whether a unit with this code begins a group.
 fn begins_group(code: u8) -> bool
     ensures { result ≡ is_kind Kind.SequenceHeader (kind_of code) }
 {
-    match startcode::kind_of(code) {
-        Some(kind) => is_header(kind),
-        None => false,
-    }
+    matches!(startcode::kind_of(code), Some(Kind::SequenceHeader))
 }
 
 #[tactic(auto, unfolding(bodies::specs::Reader::extension_of, bodies::specs::Answers::answer_of))]
@@ -76,27 +72,29 @@ fn head_extension(body: &[u8]) -> InHead
     }
 }
 
-fn head_unit(kind: Kind, body: &[u8]) -> InHead
-    ensures { Tells result (in_head (done kind) body.now) }
-{
-    match kind {
-        Kind::UserData => InHead::Other,
-        Kind::Extension => head_extension(body),
-        _ => InHead::Past,
-    }
-}
-
 // What a unit of a group's head says, by its code.
 fn in_group_head(code: u8, body: &[u8]) -> InHead
     ensures { Tells result (in_head (kind_of code) body.now) }
 {
     match startcode::kind_of(code) {
-        Some(kind) => head_unit(kind, body),
-        None => InHead::Past,
+        Some(Kind::UserData) => InHead::Other,
+        Some(Kind::Extension) => head_extension(body),
+        _ => InHead::Past,
     }
 }
 
 // ── from an offset on ──
+
+// The unit at an offset of a stream, and where the next one begins; or none where the stream ends.
+fn unit_here(stream: &[u8], at: usize) -> Option<UnitHere<'_>>
+    requires { Here stream.now at }
+    ensures { Stands stream.now at result }
+{
+    let code = *stream.get(at + 3)?;
+    let next = startcode::next_prefix(stream, at + 3);
+    let body = stream.get(at + 4..next)?;
+    Some(UnitHere { code, body, next })
+}
 
 // The display extension of the group's head that goes on at an offset.
 fn display_from(stream: &[u8], from: usize) -> Option<DisplayExtension>
@@ -104,21 +102,13 @@ fn display_from(stream: &[u8], from: usize) -> Option<DisplayExtension>
     ensures { result ≡ display_in (units_from stream.now from) }
 {
     let mut at = from;
-    while at + 3 < stream.len() {
-        let code_at = at + 3;
-        let end = startcode::next_prefix(stream, code_at);
-        let body_at = at + 4;
-        if end < body_at {
-            return None;
-        }
-        let code = stream[code_at];
-        let body = &stream[body_at..end];
-        match in_group_head(code, body) {
+    while let Some(unit) = unit_here(stream, at) {
+        match in_group_head(unit.code, unit.body) {
             InHead::Display(d) => {
                 return Some(d);
             }
             InHead::Other => {
-                at = end;
+                at = unit.next;
             }
             InHead::Past => {
                 return None;
@@ -150,20 +140,14 @@ fn group_number(stream: &[u8], g: usize) -> Result<Group, GroupError>
 {
     let mut skip = g;
     let mut at: usize = 0;
-    while at + 3 < stream.len() {
-        let code_at = at + 3;
-        let end = startcode::next_prefix(stream, code_at);
-        let body_at = at + 4;
-        if end < body_at {
-            return Err(GroupError::NoRow);
-        }
-        if begins_group(stream[code_at]) {
+    while let Some(unit) = unit_here(stream, at) {
+        if begins_group(unit.code) {
             if skip == 0 {
-                return group_here(stream, &stream[body_at..end], end);
+                return group_here(stream, unit.body, unit.next);
             }
             skip -= 1;
         }
-        at = end;
+        at = unit.next;
     }
     Err(GroupError::NoRow)
 }

@@ -65,7 +65,7 @@ fn hand_display(values: &[u64], d: DisplayExtension, numbers: &mut [u64]) -> Ans
     }
 }
 
-// A group's numbers.
+// A group's numbers. Each of the header's is widened by itself: a map over so many isn't proved.
 #[tactic(auto, unfolding(crate::specs::Numbers::header_numbers))]
 fn hand_group(h: SequenceHeader, display: Option<DisplayExtension>, numbers: &mut [u64]) -> Answer
     ensures { Handed result numbers.new (done (header_numbers h ++ shown_numbers display)) numbers.old }
@@ -133,6 +133,7 @@ pub fn group(stream: &[u8], g: usize, numbers: &mut [u64]) -> Answer
 }
 
 // A sequence header's body.
+#[tactic(auto, unfolding(bodies::specs::Reader::header_of, bodies::specs::Answers::answer_of, crate::specs::Numbers::header_numbers, crate::specs::Answers::answered, crate::specs::Answers::after))]
 pub fn sequence_header(body: &[u8], numbers: &mut [u64]) -> Answer
     ensures answer { result ≡ answered (map_done header_numbers (reader.header_of body.now)) numbers.old }
     ensures numbers { numbers.new ≡ after (map_done header_numbers (reader.header_of body.now)) numbers.old }
@@ -150,6 +151,7 @@ fn scope_for(head: bool) -> Scope
 }
 
 // An extension's body: its number, and what it says where it is not opaque.
+#[tactic(auto, unfolding(bodies::specs::Reader::extension_of, bodies::specs::Answers::answer_of, crate::specs::Answers::answered, crate::specs::Answers::after))]
 pub fn extension(body: &[u8], head: bool, numbers: &mut [u64]) -> Answer
     ensures answer { result ≡ answered (map_done extension_numbers (reader.extension_of (scope_for head) body.now)) numbers.old }
     ensures numbers { numbers.new ≡ after (map_done extension_numbers (reader.extension_of (scope_for head) body.now)) numbers.old }

@@ -14,6 +14,7 @@ use Rattle.marked.specs.declared.Begun.{Begun}
 use Rattle.marked.specs.declared.PlainBin.{PlainBin}
 use Rattle.marked.specs.declared.Bin.{Bin}
 use Rattle.marked.specs.declared.PairBin.{PairBin}
+use Rattle.marked.specs.declared.Told.{Told}
 
 -- ── the marks ──
 
@@ -30,6 +31,11 @@ abbrev pub no_lg : ℕ
 no_lg = 4294967295
 
 -- ── how many bits were missing ──
+
+-- the status of an answer, and how many bits were missing
+abbrev pub told : {A : Type 0} → Outcome A → Told
+told (done a) = record { status = 0; missing = 0 }
+told (refused number carried) = record { status = number; missing = missing_in carried }
 
 -- 0 exactly where the status is not PAYLOAD OUT
 abbrev pub ToldMissing : ℕ → ℕ → Type 0

@@ -2,14 +2,14 @@
 // mark that is no number and no bin in place of what it has none of. Beside the status is how many bits were missing, for PAYLOAD OUT.
 #![tactic(auto)]
 
-ghost use Rattle.std.specs.Prelude.{◌≡◌};
-ghost use Rattle.answers.specs.Missing.{missing_in};
+ghost use Rattle.std.specs.Prelude.{◌≡◌, ℕ, Err};
+ghost use Rattle.payload.specs.Golomb.{golomb_refused};
 ghost use Rattle.payload.specs.Reader.{golomb, signed_golomb};
 ghost use Rattle.aec.specs.Bins.{start_of, bypass_of, stuffing_of, decode_of, decode_pair_of};
-ghost use Rattle.aec.specs.Says.{refusal_number, refusal_carries, stepped_says};
-ghost use Rattle.marked.specs.Payloads.{no_number, no_signed_number, number_answer, signed_answer, begun_answer, plain_answer, bin_answer, pair_answer, entry_number, entry_answer};
+ghost use Rattle.aec.specs.Says.{started_says, refusal_says, stepped_says};
+ghost use Rattle.marked.specs.Payloads.{told, number_answer, signed_answer, begun_answer, plain_answer, bin_answer, pair_answer, entry_number, entry_answer};
 
-use aec::{StartError, State, Stepped};
+use aec::{Refusal, StartError, State, Stepped};
 use bits::Payload;
 use contexts::Context;
 use payload::GolombError;
@@ -82,29 +82,59 @@ const NO_BIN: u32 = 2;
 
 const NO_LG: u32 = 0xFFFFFFFF;
 
+// ── refusals ──
+
+// The status of a refusal, and how many bits were missing.
+#[derive(Clone, Copy)]
+struct Told {
+    status: u32,
+    missing: u32,
+}
+
+impl Told {
+    fn of(status: u32, missing: u32) -> Told
+        ensures { result ≡ record { status = status; missing = missing } }
+    {
+        Told { status, missing }
+    }
+}
+
+impl From<GolombError> for Told {
+    ghost from_gives = { λ why result. result ≡ told (golomb_refused {A = ℕ} why) };
+
+    fn from(why: GolombError) -> Told {
+        match why {
+            GolombError::Value => Told::of(8, 0),
+            GolombError::TooLong => Told::of(13, 0),
+            GolombError::PayloadOut(missing) => Told::of(14, missing),
+        }
+    }
+}
+
+impl From<StartError> for Told {
+    ghost from_gives = { λ why result. result ≡ told (started_says (Err why)) };
+
+    fn from(why: StartError) -> Told {
+        match why {
+            StartError::TooLong => Told::of(13, 0),
+            StartError::PayloadOut(missing) => Told::of(14, missing),
+        }
+    }
+}
+
+impl From<Refusal> for Told {
+    ghost from_gives = { λ why result. result ≡ told (refusal_says {A = ℕ} why) };
+
+    fn from(why: Refusal) -> Told {
+        match why {
+            Refusal::TooLong => Told::of(13, 0),
+            Refusal::BadState => Told::of(15, 0),
+            Refusal::PayloadOut => Told::of(14, 1),
+        }
+    }
+}
+
 // ── Exp-Golomb numbers ──
-
-fn no_number(status: u32, missing: u32, place: usize) -> Number
-    ensures { result ≡ record { status = status; missing = missing; number = no_number; place = place } }
-{
-    Number {
-        status: status,
-        missing: missing,
-        number: NO_NUMBER,
-        place: place,
-    }
-}
-
-fn no_signed_number(status: u32, missing: u32, place: usize) -> SignedNumber
-    ensures { result ≡ record { status = status; missing = missing; number = no_signed_number; place = place } }
-{
-    SignedNumber {
-        status: status,
-        missing: missing,
-        number: NO_SIGNED_NUMBER,
-        place: place,
-    }
-}
 
 // The Exp-Golomb number at a place of a payload.
 pub fn unsigned_golomb(bytes: &[u8], bits: usize, place: usize) -> Number
@@ -118,9 +148,15 @@ pub fn unsigned_golomb(bytes: &[u8], bits: usize, place: usize) -> Number
             number: found.number,
             place: found.next,
         },
-        Err(GolombError::Value) => no_number(8, 0, place),
-        Err(GolombError::TooLong) => no_number(13, 0, place),
-        Err(GolombError::PayloadOut(missing)) => no_number(14, missing, place),
+        Err(why) => {
+            let told = Told::from(why);
+            Number {
+                status: told.status,
+                missing: told.missing,
+                number: NO_NUMBER,
+                place,
+            }
+        }
     }
 }
 
@@ -136,43 +172,19 @@ pub fn signed_golomb(bytes: &[u8], bits: usize, place: usize) -> SignedNumber
             number: found.number,
             place: found.next,
         },
-        Err(GolombError::Value) => no_signed_number(8, 0, place),
-        Err(GolombError::TooLong) => no_signed_number(13, 0, place),
-        Err(GolombError::PayloadOut(missing)) => no_signed_number(14, missing, place),
+        Err(why) => {
+            let told = Told::from(why);
+            SignedNumber {
+                status: told.status,
+                missing: told.missing,
+                number: NO_SIGNED_NUMBER,
+                place,
+            }
+        }
     }
 }
 
 // ── bins ──
-
-fn bin_number(why: aec::Refusal) -> u32
-    ensures { result ≡ refusal_number why }
-{
-    match why {
-        aec::Refusal::TooLong => 13,
-        aec::Refusal::BadState => 15,
-        aec::Refusal::PayloadOut => 14,
-    }
-}
-
-fn bits_missing(why: aec::Refusal) -> u32
-    ensures { result ≡ missing_in (refusal_carries why) }
-{
-    match why {
-        aec::Refusal::TooLong => 0,
-        aec::Refusal::BadState => 0,
-        aec::Refusal::PayloadOut => 1,
-    }
-}
-
-fn not_begun(status: u32, missing: u32, state: State) -> Begun
-    ensures { result ≡ record { status = status; missing = missing; state = state } }
-{
-    Begun {
-        status: status,
-        missing: missing,
-        state: state,
-    }
-}
 
 // The state after a start on a payload.
 pub fn start(bytes: &[u8], bits: usize, state: State) -> Begun
@@ -184,8 +196,14 @@ pub fn start(bytes: &[u8], bits: usize, state: State) -> Begun
             missing: 0,
             state: next,
         },
-        Err(StartError::TooLong) => not_begun(13, 0, state),
-        Err(StartError::PayloadOut(missing)) => not_begun(14, missing, state),
+        Err(why) => {
+            let told = Told::from(why);
+            Begun {
+                status: told.status,
+                missing: told.missing,
+                state,
+            }
+        }
     }
 }
 
@@ -201,13 +219,16 @@ pub fn decode(bytes: &[u8], bits: usize, state: State, context: Context) -> Bin
             state: done.state,
             context: done.contexts,
         },
-        Err(why) => Bin {
-            status: bin_number(why),
-            missing: bits_missing(why),
-            bin: NO_BIN,
-            state: state,
-            context: context,
-        },
+        Err(why) => {
+            let told = Told::from(why);
+            Bin {
+                status: told.status,
+                missing: told.missing,
+                bin: NO_BIN,
+                state,
+                context,
+            }
+        }
     }
 }
 
@@ -230,18 +251,21 @@ pub fn decode_pair(
             first: done.contexts.first,
             second: done.contexts.second,
         },
-        Err(why) => PairBin {
-            status: bin_number(why),
-            missing: bits_missing(why),
-            bin: NO_BIN,
-            state: state,
-            first: first,
-            second: second,
-        },
+        Err(why) => {
+            let told = Told::from(why);
+            PairBin {
+                status: told.status,
+                missing: told.missing,
+                bin: NO_BIN,
+                state,
+                first,
+                second,
+            }
+        }
     }
 }
 
-fn plain_bin(answer: Result<Stepped, aec::Refusal>, state: State) -> PlainBin
+fn plain_bin(answer: Result<Stepped, Refusal>, state: State) -> PlainBin
     ensures { result ≡ plain_answer state (stepped_says answer) }
 {
     match answer {
@@ -251,12 +275,15 @@ fn plain_bin(answer: Result<Stepped, aec::Refusal>, state: State) -> PlainBin
             bin: done.bin,
             state: done.state,
         },
-        Err(why) => PlainBin {
-            status: bin_number(why),
-            missing: bits_missing(why),
-            bin: NO_BIN,
-            state: state,
-        },
+        Err(why) => {
+            let told = Told::from(why);
+            PlainBin {
+                status: told.status,
+                missing: told.missing,
+                bin: NO_BIN,
+                state,
+            }
+        }
     }
 }
 

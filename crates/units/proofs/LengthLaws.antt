@@ -1,21 +1,18 @@
 -- The laws of a row's length: trailing zeros, and which bodies are whole.
-use Prim.Native.Nat.{ℕ, suc, ◌≤◌, ◌<◌, ◌-◌}
+use Prim.Native.Nat.{ℕ}
 use mathlib.Core.Path.{◌≡◌, refl, sym, ◌∙◌, ap}
 use mathlib.Core.List.{List, [], ◌∷◌, ◌++◌}
-use mathlib.Core.Bool.{Bool, true, false, cond}
-use lib.ListN.{length, get_or, take}
-use lib.Seq.{take-suc, take-length}
+use mathlib.Core.Bool.{Bool, cond}
+use lib.ListN.{length}
 use borrow.Author.Tests.{ne_eqb}
-use native.Mathlib.Omega.{arith}
 use Rattle.answers.specs.Answers.{Outcome, done, refused}
-use Rattle.bits.proofs.TestLaws.{contrary}
 use Rattle.bodies.specs.declared.Scope.{Scope}
 use Rattle.startcode.specs.Kinds.{kind_of}
 use Rattle.startcode.specs.declared.Kind.{Kind}
 use Rattle.startcode.specs.declared.Kind.TheVariants as kind
 use Rattle.grammar.specs.Grammar.{StreamUnit}
 use Rattle.grammar.specs.Rows.{placed, kept, trimmed, whole_body, row_length}
-use Rattle.grammar.specs.Reader.{same_kind, place_of, scope_in}
+use Rattle.grammar.specs.Reader.{place_of, scope_in}
 use Rattle.grammar.specs.declared.State.{State}
 use Rattle.grammar.specs.declared.State.TheVariants.{Start, Head, Picture as InPicture, Slices, Ended, Closed}
 use Rattle.units.specs.Inside.{extension_scope}

@@ -26,7 +26,7 @@ told r = done (r.bin, r.state)
 module _ (g : Over) (c : In_ok-at g) where
   guarded : let a = c.args in let at = c.in_ok-at.at in
       Guards a.bits.bytes.now a.bits.count a.x (g.C.Contexts.good a.contexts) (payload at.limited.bits.bytes.now at.limited.bits.count) at.state
-  guarded = let a = c.args in guards _ _ _ _ _ _ (c.in_ok-at.ensures ∙ ap (guarded_of a.bits.bytes.now a.bits.count a.x) c.is_good.ensures)
+  guarded = let a = c.args in guards _ _ _ _ _ _ (c.in_ok-at.ensures ∙ ap (guarded_of a.bits.bytes.now a.bits.count a.x) c.are_good.ensures)
 
   good : g.C.Contexts.good c.args.contexts ≡ true
   good = (first_held _ _ _ _ (sym guarded.fine)).2
@@ -36,7 +36,7 @@ returns-in_err-at g c =
     let a = c.args in
     let k = g.C.Contexts in
     let e = first_stops k.good k.predicts k.update a.bits.bytes.now a.bits.count a.x a.contexts
-    (guard_stops _ _ _ _ (c.in_err-at.ensures ∙ ap (guarded_of a.bits.bytes.now a.bits.count a.x) c.is_good.ensures)) in
+    (guard_stops _ _ _ _ (c.in_err-at.ensures ∙ ap (guarded_of a.bits.bytes.now a.bits.count a.x) c.are_good.ensures)) in
     search rules
 
 pub prediction-g-requires : goal.prediction-g-requires
@@ -51,8 +51,8 @@ returns-in_err-done-in-None g c =
     (c.in_err-done-in-None.ensures ∙ step_same (ap bits_of c.copied.ensures.0 ∙ w.bits_same) (c.copied.ensures.1 ∙ w.state_same) c.prediction-g.ensures) in
     search rules
 
-pub updated-requires : goal.updated-requires
-updated-requires g c = good g (goal.at.updated-requires g c).In_ok-at
+pub after-requires : goal.after-requires
+after-requires g c = good g (goal.at.after-requires g c).In_ok-at
 
 pub returns : goal.returns
 returns g c =
@@ -68,5 +68,5 @@ returns g c =
       | in-None+in_ok-done-in-None v ↦ ap told v.done-is ∙ v.in_ok-done-in-None.ensures
           ∙ step_same (ap bits_of v.copied.ensures.0 ∙ w.bits_same) (v.copied.ensures.1 ∙ w.state_same) c.prediction-g.ensures
     ] in
-    ap (λ d. done (r.bin, r.state, d)) c.updated.ensures
+    ap (λ d. done (r.bin, r.state, d)) c.after.ensures
     ∙ bin_done k.good k.predicts k.update a.bits.bytes.now a.bits.count a.x a.contexts w.fine r.bin r.state stepped

@@ -1,6 +1,5 @@
 -- The number and the place after it, or the refusal.
-use Rattle.std.specs.Prelude.{Err}
-use mathlib.Core.Path.{ap, ◌∙◌}
+use mathlib.Core.Path.{ap}
 use borrow.Author.Rules.{rules}
 use lib.IntN.{ℤ}
 use mir.Facts.{to_z-of_z}
@@ -15,15 +14,3 @@ pub returns-in-Ok : goal.returns-in-Ok
 returns-in-Ok c =
     let answer : ℤ → SignedNumber = λ n. record { status = 0; missing = 0; number = n; place = c.in-Ok.found.next } in
     arm_answers (signed_answer c.args.place) golomb_says c.in-Ok.is c.signed_golomb.ensures (ap answer (to_z-of_z {w = w32} {z = c.in-Ok.found.number} (search rules)))
-
-pub returns-in-Err-Value : goal.returns-in-Err-Value
-returns-in-Err-Value c =
-    arm_answers (signed_answer c.args.place) golomb_says (c.in-Err-Value.is ∙ ap Err c.in-Err-Value.field-0-is) c.signed_golomb.ensures c.no_signed_number.ensures
-
-pub returns-in-Err-TooLong : goal.returns-in-Err-TooLong
-returns-in-Err-TooLong c =
-    arm_answers (signed_answer c.args.place) golomb_says (c.in-Err-TooLong.is ∙ ap Err c.in-Err-TooLong.field-0-is) c.signed_golomb.ensures c.no_signed_number-in-Err-TooLong.ensures
-
-pub returns-in-Err-PayloadOut : goal.returns-in-Err-PayloadOut
-returns-in-Err-PayloadOut c =
-    arm_answers (signed_answer c.args.place) golomb_says (c.in-Err-PayloadOut.is ∙ ap Err c.in-Err-PayloadOut.field-0-is) c.signed_golomb.ensures c.no_signed_number-in-Err-PayloadOut.ensures
