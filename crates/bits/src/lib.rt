@@ -42,6 +42,7 @@ impl Payload<'_> {
     }
 
     // How many bits there are. The count is divided, as the place is above.
+    #[tactic(auto, using(crate::proofs::BitLaws::length_payload))]
     fn held(&self) -> usize
         ensures { result ≡ length (payload self.now.bytes.now self.now.count) }
     {

@@ -69,7 +69,7 @@ pub enum ExtensionBody {
     Opaque(u32),
 }
 
-// The number of what a body is refused for.
+// The number of what a body is refused for. Not discriminants: two faults carry a bit.
 #[tactic(auto, unfolding(crate::specs::Answers::fault_number, crate::specs::Answers::value_number))]
 pub fn fault_number(why: Fault) -> u32
     ensures { result ≡ fault_number why }
@@ -139,7 +139,7 @@ fn plain(body: &[u8]) -> Result<ExtensionBody, Fault>
     }))
 }
 
-// The same where colour is given.
+// The same where colour is given. Not one function: fields stand at other places, which a table would have to name.
 fn coloured(body: &[u8]) -> Result<ExtensionBody, Fault>
     ensures { result ≡ coloured_of body.now }
 {

@@ -5,7 +5,7 @@ use mathlib.Core.Bool.{Bool, true, false}
 use native.Mathlib.Omega.{arith}
 use borrow.Author.Tests.{le-leb, lt-leb, leb-true, leb-false}
 use lib.Dec.{leb, eqb}
-use Rattle.bits.proofs.TestLaws.{not_held, chosen, and_true}
+use Rattle.bits.proofs.TestLaws.{chosen, and_true}
 use Rattle.rates.specs.Rates.{rate_of, gain_of, next_lg}
 use Rattle.rates.proofs.RateLaws.{rate_within, gain_within, next_lg_within}
 use Rattle.contexts.specs.Contexts.{good_context, fresh_context, next_cycno, fold_of, update_of, updated_of}
@@ -30,9 +30,6 @@ context_ranges c e =
 pub ranges_context : (c : Context) → ContextRanges c → true ≡ good_context c
 unfolding good_context
 ranges_context c r = simp (le-leb _ _ r.mps, le-leb _ _ r.low, le-leb _ _ r.high, le-leb _ _ r.cycno)
-
-pub bad_context : (c : Context) → (ContextRanges c → ⊥) → false ≡ good_context c
-bad_context c h = not_held (good_context c) (context_ranges c) h
 
 -- ── the next cycno ──
 

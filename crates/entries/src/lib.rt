@@ -32,7 +32,7 @@ fn picked(words: Words, rate: Rate) -> u64
     }
 }
 
-// The entry of a rate's table at an lg. Both functions below call it, so that it is not inlined and they are: docs/PERFORMANCE.md.
+// The entry of a rate's table at an lg.
 fn read(rate: Rate, lg: u32) -> u32
     ensures { result ≡ read_of (w_of rate) lg }
 {

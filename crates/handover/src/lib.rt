@@ -65,7 +65,7 @@ fn hand_display(values: &[u64], d: DisplayExtension, numbers: &mut [u64]) -> Ans
     }
 }
 
-// A group's numbers.
+// A group's numbers. Each of the header's is widened by itself: a map over so many isn't proved.
 #[tactic(auto, unfolding(crate::specs::Numbers::header_numbers))]
 fn hand_group(h: SequenceHeader, display: Option<DisplayExtension>, numbers: &mut [u64]) -> Answer
     ensures { Handed result numbers.new (done (header_numbers h ++ shown_numbers display)) numbers.old }

@@ -338,7 +338,8 @@ fn judge_body(layout: Layout, body: &[u8], values: &[u32]) -> Result<(), Fault>
     Ok(())
 }
 
-// A body read by its layout: the first values are those of its fields, in order, and no other is a field's.
+// A body read by its layout: the first values are those of its fields, in order, and no other is a field's. Memory is fixed, so there
+// is room for the longest layout.
 pub fn read_body(layout: Layout, body: &[u8]) -> Result<[u32; 16], Fault>
     ensures { map_ok (take (length (fields layout))) result ≡ reading layout body.now }
 {

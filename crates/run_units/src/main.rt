@@ -165,7 +165,7 @@ const COLOURED: [u8; 16] = *b"\x2B\x84\x85\x03\x85\xA1\x09\x01\x80\x00\x00\x00\x
 
 const COPYRIGHT: [u8; 16] = *b"\x48\x8C\x04\x00\x00\x60\x00\x01\x40\x00\x03\x80\x00\x00\x00\x00";
 
-// One of the four, so many of its bytes lent, and the byte that is changed at a place.
+// One of the four by its number, which is printed; so many of its bytes lent; the place of a byte and what it is changed to.
 const BODIES: [(u32, usize, usize, u8); 38] = [
     // Good; short; each value that is ruled out; each marker; each end of the stuffing.
     (0, 15, 0, 0x48),

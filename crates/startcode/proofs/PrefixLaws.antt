@@ -7,7 +7,7 @@ use native.Mathlib.Omega.{arith}
 use lib.Dec.{leb, eqb}
 use lib.ListN.{length, get_or, drop, length-take, length-drop}
 use lib.Seq.{get_or-drop}
-use borrow.Author.Tests.{lt-leb, leb-true, eq-eqb}
+use borrow.Author.Tests.{lt-leb, leb-true}
 use Rattle.bits.proofs.ListLaws.{at_head}
 use Rattle.bits.proofs.TestLaws.{by_test}
 use Rattle.startcode.specs.Prefix.{begins, before, next_prefix}
@@ -36,10 +36,6 @@ pub begins_at : (s : List ℕ) (i : ℕ) → i + 2 < length s →
 begins_at s i h =
     let z : i + 0 ≡ i = omega arith in
     begins_of (drop i s) (rw length-drop (omega arith)) ∙ simp (get_or-drop, z)
-
--- after two 00 the third byte decides
-pub begins_third : (s : List ℕ) (i : ℕ) → i + 2 < length s → get_or s i 0 ≡ 0 → get_or s (i + 1) 0 ≡ 0 → begins (drop i s) ≡ eqb (get_or s (i + 2) 0) 1
-begins_third s i h a b = begins_at s i h ∙ simp (eq-eqb _ _ a, eq-eqb _ _ b)
 
 pub begins_short : (s : List ℕ) → length s < 3 → begins s ≡ false
 unfolding begins
