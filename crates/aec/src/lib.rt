@@ -14,7 +14,7 @@ ghost use Rattle.aec.specs.Inside.{bin_by, own_prediction, good_pair, pair_predi
 
 mod ranges;
 
-use bits::{Payload, ReadError};
+use bits::{LIMIT, Payload, ReadError};
 use contexts::Context;
 use ranges::{Prediction, Split};
 
@@ -103,9 +103,6 @@ struct Missed<'a> {
     split: Split,
     ghost misses: { misses_of at.state (of_split split) ≡ true },
 }
-
-// The most bytes of a payload. The crate payload has its own, and neither stands on the other.
-const LIMIT: usize = 65536;
 
 // The most bits of a payload.
 const MOST_BITS: u32 = 524288;

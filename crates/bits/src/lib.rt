@@ -5,6 +5,9 @@ ghost use Rattle.std.specs.Prelude.{◌≡◌, ◌+◌, ◌-◌, ◌*◌, ◌/�
 ghost use Rattle.bits.specs.Bits.{bits_in, bits_of, payload, bit_at, read_within};
 ghost use Rattle.bits.specs.Reader.{word_at};
 
+// The most bytes of a payload that is decoded.
+pub const LIMIT: usize = 65536;
+
 // Why no number is read: so many bits are missing, and then none is taken; or the width is over 32.
 #[derive(Clone, Copy, Debug, PartialEq, Eq)]
 pub enum ReadError {

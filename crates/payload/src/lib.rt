@@ -11,11 +11,8 @@ ghost use Rattle.payload.specs.Inside.{kept_width, Copied};
 
 mod packer;
 
-use bits::{Payload, ReadError};
+use bits::{LIMIT, Payload, ReadError};
 use packer::Packer;
-
-// The most bytes of a payload.
-const LIMIT: usize = 65536;
 
 // ── escape removal ──
 
