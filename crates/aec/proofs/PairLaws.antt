@@ -1,17 +1,13 @@
--- The laws of a prediction by one context and by two.
+-- The laws of the prediction of two contexts.
 use Prim.Native.Nat.{◌+◌, ◌-◌, ◌/◌, ◌≤◌, ◌<◌}
 use mathlib.Core.Path.{◌≡◌}
-use mathlib.Core.Bool.{true}
 use native.Mathlib.Omega.{arith}
 use borrow.Author.Tests.{lt-ltb, le-ltb, eq-eqb, ne_eqb}
 use lib.Dec.{ltb, eqb}
-use Rattle.bits.proofs.TestLaws.{chosen, and_true}
+use Rattle.bits.proofs.TestLaws.{chosen}
 use Rattle.contexts.specs.declared.Context.{Context}
-use Rattle.contexts.specs.Contexts.{good_context}
-use Rattle.contexts.proofs.ContextLaws.{ContextRanges, context_ranges}
+use Rattle.contexts.proofs.ContextLaws.{ContextRanges}
 use Rattle.aec.specs.Bins.{Guess, pair_of}
-use Rattle.aec.specs.Inside.{own_prediction, good_pair, pair_prediction}
-use Rattle.aec.specs.declared.Pair.{Pair}
 
 -- the ranges of a prediction
 pub record Predicts (g : Guess) : Type 0 where
@@ -36,10 +32,3 @@ unfolding pair_of
 pair_predicts a b r s =
     chosen Predicts (eqb a.mps b.mps) _ _ (λ t. record { bin = r.mps; low = omega arith; high = omega arith })
     (λ t. chosen Predicts (ltb a.lg b.lg) _ _ (λ u. record { bin = r.mps; low = omega arith; high = omega arith }) (λ u. record { bin = s.mps; low = omega arith; high = omega arith }))
-
--- contexts within their ranges predict within theirs
-pub own_within : (c : Context) → good_context c ≡ true → Predicts (own_prediction c)
-own_within c e = let r = context_ranges c e in record { bin = r.mps; low = r.low; high = r.high }
-
-pub pair_within : (c : Pair) → good_pair c ≡ true → Predicts (pair_prediction c)
-pair_within c e = let r = and_true _ _ e in pair_predicts _ _ (context_ranges _ r.0) (context_ranges _ r.1)

@@ -1,10 +1,12 @@
 -- The laws of a row's length: trailing zeros, and which bodies are whole.
-use Prim.Native.Nat.{ℕ}
+use Prim.Native.Nat.{ℕ, suc, ◌≤◌, ◌<◌, ◌-◌}
 use mathlib.Core.Path.{◌≡◌, refl, sym, ◌∙◌, ap}
 use mathlib.Core.List.{List, [], ◌∷◌, ◌++◌}
 use mathlib.Core.Bool.{Bool, cond}
-use lib.ListN.{length}
+use lib.ListN.{length, get_or, take}
+use lib.Seq.{take-suc}
 use borrow.Author.Tests.{ne_eqb}
+use native.Mathlib.Omega.{arith}
 use Rattle.answers.specs.Answers.{Outcome, done, refused}
 use Rattle.bodies.specs.declared.Scope.{Scope}
 use Rattle.startcode.specs.Kinds.{kind_of}
@@ -19,7 +21,7 @@ use Rattle.units.specs.Inside.{extension_scope}
 
 -- ── trailing zeros ──
 
-pub trim_zero : (l : List ℕ) → trimmed (l ++ (0 ∷ [])) ≡ trimmed l
+trim_zero : (l : List ℕ) → trimmed (l ++ (0 ∷ [])) ≡ trimmed l
 trim_zero [] = refl
 trim_zero (x ∷ l) = ap (kept x) (trim_zero l)
 
@@ -27,9 +29,20 @@ kept_snoc : (y : ℕ) (l : List ℕ) (x : ℕ) → kept y (l ++ (x ∷ [])) ≡ 
 kept_snoc y [] x = refl
 kept_snoc y (z ∷ l) x = refl
 
-pub trim_not : (l : List ℕ) (x : ℕ) → (x ≡ 0 → ⊥) → trimmed (l ++ (x ∷ [])) ≡ l ++ (x ∷ [])
+trim_not : (l : List ℕ) (x : ℕ) → (x ≡ 0 → ⊥) → trimmed (l ++ (x ∷ [])) ≡ l ++ (x ∷ [])
 trim_not [] x h = simp (ne_eqb x 0 h)
 trim_not (y ∷ l) x h = ap (kept y) (trim_not l x h) ∙ kept_snoc y l x
+
+-- the last of the first n bytes
+module _ (b : List ℕ) (n : ℕ) (h : 0 < n) (k : n ≤ length b) where
+  last_is : take n b ≡ take (n - 1) b ++ (get_or b (n - 1) 0 ∷ [])
+  last_is = let e : n ≡ suc (n - 1) = omega arith in ap (λ (x : ℕ). take x b) e ∙ take-suc b (n - 1) 0 (omega arith)
+
+  pub trim_more : get_or b (n - 1) 0 ≡ 0 → trimmed (take n b) ≡ trimmed (take (n - 1) b)
+  trim_more z = ap trimmed (last_is ∙ ap (λ (x : ℕ). take (n - 1) b ++ (x ∷ [])) z) ∙ trim_zero (take (n - 1) b)
+
+  pub trim_end : (get_or b (n - 1) 0 ≡ 0 → ⊥) → trimmed (take n b) ≡ take n b
+  trim_end z = ap trimmed last_is ∙ trim_not (take (n - 1) b) (get_or b (n - 1) 0) z ∙ sym last_is
 
 -- ── a row's length ──
 

@@ -130,12 +130,10 @@ fn is_whole(scope: Scope, kind: Kind, body: &[u8]) -> bool
 fn trimmed_length(body: &[u8]) -> usize
     ensures { result ≡ length (trimmed body.now) }
 {
-    let mut rest = body;
-    while let Some((last, front)) = rest.split_last() {
-        if *last != 0 {
-            return rest.len();
+    for n in (0..body.len()).rev() {
+        if body[n] != 0 {
+            return n + 1;
         }
-        rest = front;
     }
     0
 }

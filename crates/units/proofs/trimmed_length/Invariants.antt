@@ -1,11 +1,8 @@
--- The bytes that are left are trimmed to what all are.
+-- The bytes before the place are trimmed to what all are.
 use mathlib.Core.Path.{◌≡◌}
-use lib.ListN.{length}
+use lib.ListN.{take}
 use Rattle.grammar.specs.Rows.{trimmed}
 use Rattle.units.proofs.trimmed_length.Given as goal
 
-abbrev pub invariant-loop-last : goal.invariant-loop-last
-invariant-loop-last l = trimmed l.body ≡ trimmed l.rest
-
-abbrev pub decreases-loop-last : goal.decreases-loop-last
-decreases-loop-last l = length l.rest
+abbrev pub invariant-loop-n : goal.invariant-loop-n
+invariant-loop-n l = trimmed l.body ≡ trimmed (take l.n l.body)
