@@ -100,7 +100,7 @@ pub fn sequence_header(body: &[u8]) -> Result<SequenceHeader, Fault>
         _,
         high,
         delay,
-        _,
+        _marker,
         buffer,
         _,
     ] = layout::read_body(Layout::Header, body)?;

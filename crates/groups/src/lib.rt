@@ -45,7 +45,8 @@ struct UnitHere<'a> {
     next: usize,
 }
 
-// What a unit after a sequence header is: the display extension, another unit of the group's head, or past it.
+// What a unit after a sequence header is: the display extension, another unit of the group's head, or past it. Neither an Option nor a
+// Result: it has three cases.
 #[derive(Clone, Copy)]
 enum InHead {
     Display(DisplayExtension),
@@ -85,7 +86,8 @@ fn in_group_head(code: u8, body: &[u8]) -> InHead
 
 // ── from an offset on ──
 
-// The unit at an offset of a stream, and where the next one begins; or none where the stream ends.
+// The unit at an offset of a stream, and where the next one begins; or none where the stream ends. Not an iterator: that is a struct with
+// an invariant and laws of its own, and two loops would be no shorter.
 fn unit_here(stream: &[u8], at: usize) -> Option<UnitHere<'_>>
     requires { Here stream.now at }
     ensures { Stands stream.now at result }
