@@ -27,7 +27,7 @@ pub struct SequenceHeader {
     pub buffer: u32,
 }
 
-#[derive(Clone, Copy)]
+#[derive(Clone, Copy, Debug, PartialEq, Eq)]
 pub struct Colour {
     pub primaries: u32,
     pub transfer: u32,
@@ -55,7 +55,7 @@ pub struct CopyrightExtension {
 }
 
 // Where an extension stands: in a group's head, or after a picture header.
-#[derive(Clone, Copy)]
+#[derive(Clone, Copy, Debug, PartialEq, Eq)]
 pub enum Scope {
     Head,
     Picture,

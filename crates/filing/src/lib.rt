@@ -19,7 +19,7 @@ use startcode::Kind;
 use units::NextUnit;
 
 // A refusal and its offset in the stream.
-#[derive(Clone, Copy)]
+#[derive(Clone, Copy, Debug, PartialEq, Eq)]
 pub struct Refusal {
     pub reason: Reason,
     pub offset: usize,

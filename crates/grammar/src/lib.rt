@@ -27,7 +27,7 @@ pub enum State {
 
 // Why a stream is refused. Body is what is wrong with a unit's body, whole; SliceOrder and SliceRow tell which of a slice's
 // two rules is broken.
-#[derive(Clone, Copy)]
+#[derive(Clone, Copy, Debug, PartialEq, Eq)]
 pub enum Reason {
     NoCode,
     Cut,

@@ -23,7 +23,7 @@ pub struct Group {
 }
 
 // A stream has no such group, or is refused.
-#[derive(Clone, Copy)]
+#[derive(Clone, Copy, Debug, PartialEq, Eq)]
 pub enum GroupError {
     NoRow,
     Refused(Refusal),

@@ -49,7 +49,7 @@ pub enum Name {
 
 // The fields that are refused for their value, by document 02's names: width and height are the sizes of a sequence header. The
 // copyright number is its three parts together. Each has the number of its refusal.
-#[derive(Clone, Copy)]
+#[derive(Clone, Copy, Debug, PartialEq, Eq)]
 pub enum JudgedField {
     Width = 20,
     Height,
@@ -86,7 +86,7 @@ pub enum Rule {
 pub struct Field(pub Name, pub u32, pub Rule);
 
 // The layouts: a display extension has two, without colour and with it.
-#[derive(Clone, Copy)]
+#[derive(Clone, Copy, Debug, PartialEq, Eq)]
 pub enum Layout {
     Header,
     Display,
@@ -95,7 +95,7 @@ pub enum Layout {
 }
 
 // What is wrong with a body: it is too short; a marker, by its bit; a value, by its field and that one's first bit; its end.
-#[derive(Clone, Copy)]
+#[derive(Clone, Copy, Debug, PartialEq, Eq)]
 pub enum Fault {
     Short,
     Marker(usize),
