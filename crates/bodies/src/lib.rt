@@ -34,8 +34,7 @@ pub struct Colour {
     pub matrix: u32,
 }
 
-// Its colour where that is given.
-
+// Its colour is there where it is given.
 #[derive(Clone, Copy)]
 pub struct DisplayExtension {
     pub format: u32,

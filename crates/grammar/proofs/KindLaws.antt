@@ -42,6 +42,9 @@ same_true j k t = undone kind_index kind_at index_undone j k (eqb-true (kind_ind
 pub true_same : (j k : Kind) → j ≡ k → same_kind j k ≡ true
 true_same j k e = eq-eqb (kind_index j) (kind_index k) (ap kind_index e)
 
+pub other_kind : (k j : Kind) → ¬ (k ≡ j) → same_kind k j ≡ false
+other_kind k j n = by_test (same_kind k j) (λ t. absurd (n (same_true k j t))) (λ f. f)
+
 -- no unit has two kinds
 pub apart : {P : Type 0} {o : Outcome Kind} (j k : Kind) → same_kind j k ≡ false → o ≡ done j → o ≡ done k → P
 apart j k d e f = let s = true_same j k (done_one (sym e ∙ f)) in let z : ◌≡◌ {A = ℕ} 0 1 = cc in absurd (omega arith)

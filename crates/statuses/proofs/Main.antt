@@ -1,9 +1,12 @@
 -- What is proved of answers beyond the contracts of the functions: demand 3 of filing's; and that the bit is there exactly for MARKER and
 -- VALUE, and the mark that stands for none is no bit.
 use Prim.Native.Nat.{ℕ}
+use mathlib.Core.Path.{◌≡◌, refl}
 use mathlib.Core.List.{List}
+use native.Mathlib.Omega.{arith}
 use lib.ListN.{length}
-use Rattle.answers.specs.Answers.{Outcome, done, refused, map_done}
+use Rattle.std.specs.Prelude.{Some, None}
+use Rattle.answers.specs.Answers.{Outcome, done, refused, map_done, OneToOne}
 use Rattle.grammar.specs.Reader.{walk, walk_into, said, filing_into}
 use Rattle.grammar.specs.Refusals.{RefusesInto, refuses, full}
 use Rattle.grammar.specs.declared.Reason.{Reason}
@@ -11,7 +14,7 @@ use Rattle.grammar.proofs.ReasonLaws.{BitSmall, refuses_fair, full_fair}
 use Rattle.grammar.proofs.Refusals.{stopped_iff, into_stopped_iff}
 use Rattle.filing.specs.Filing.{totals, words_after}
 use Rattle.filing.specs.Reader.{filed}
-use Rattle.statuses.specs.Answers.{counted, filed_answer, AnsweredByReading, BitMarked}
+use Rattle.statuses.specs.Answers.{counted, filed_answer, AnsweredByReading, BitMarked, carried_bit}
 use Rattle.statuses.proofs.MarkLaws.{marked_walk}
 use Rattle.statuses.proofs.ReadingLaws as readings
 
@@ -21,6 +24,13 @@ pub file_by_reading : (stream lent : List ℕ) → AnsweredByReading stream lent
 file_by_reading = readings.file_by_reading
 
 -- ── the bit ──
+
+-- what `fault_bit` and `reason_bit` answer says one thing each
+pub carried_one_to_one : OneToOne carried_bit
+carried_one_to_one None None e = refl
+carried_one_to_one None (Some b) e = let z : ◌≡◌ {A = ℕ} 0 1 = cc in absurd (omega arith)
+carried_one_to_one (Some a) None e = let z : ◌≡◌ {A = ℕ} 0 1 = cc in absurd (omega arith)
+carried_one_to_one (Some a) (Some b) e = cc
 
 -- of what `check` answers
 pub check_marked : (stream : List ℕ) → BitMarked (counted (said length (walk stream)))
