@@ -2,13 +2,17 @@
 #![tactic(auto)]
 
 ghost use Rattle.std.specs.Prelude.{◌≡◌, length};
-ghost use Rattle.grammar.specs.Rows.{placed, trimmed, row_length};
+ghost use Rattle.answers.specs.Answers.{done};
+ghost use Rattle.startcode.specs.Kinds.{kind_of};
+ghost use Rattle.grammar.specs.Grammar.{StreamUnit};
+ghost use Rattle.grammar.specs.Rows.{placed, trimmed, is_whole, row_length};
+ghost use Rattle.grammar.specs.Reader.{step, scope_in};
 ghost use Rattle.units.specs.Reader.{unit_from, unit_at};
-ghost use Rattle.units.specs.Inside.{extension_scope, known_step, known_whole, known_length};
 
 use bodies::Scope;
 use grammar::{Reason, SliceRule, State};
 use startcode::Kind;
+use std::marker::Model;
 
 // What follows a unit: the state after it, where it ends, and its row's length.
 #[derive(Clone, Copy, Debug, PartialEq, Eq)]
@@ -19,28 +23,27 @@ pub struct NextUnit {
 }
 
 // A unit whose code byte has a kind. The kind is found once.
-#[derive(Clone, Copy)]
+#[derive(Drop)]
 struct KnownUnit<'a> {
     kind: Kind,
     code: u8,
     body: &'a [u8],
 }
 
+impl<'a> Model for KnownUnit<'a> {
+    ghost Value = { StreamUnit };
+
+    ghost view = { λ u. record { code = u.code; body = u.body.now } };
+
+    ghost invariant = { λ u. kind_of u.code ≡ done u.kind };
+}
+
 impl KnownUnit<'_> {
     // ── what follows it, by the state that it is read in ──
 
-    // At the start only B0 may stand.
-    fn at_start(self) -> Result<State, Reason>
-        ensures { result ≡ known_step State.Start self.entry }
-    {
-        match self.kind {
-            Kind::SequenceHeader => steps::header_step(self.body),
-            _ => Err(Reason::OutOfPlace),
-        }
-    }
-
-    fn in_head(self, rule: SliceRule, display: bool) -> Result<State, Reason>
-        ensures { result ≡ known_step (State.Head rule display) self.entry }
+    #[tactic(auto, unfolding(grammar::specs::Reader::step))]
+    fn in_head(&self, rule: SliceRule, display: bool) -> Result<State, Reason>
+        ensures { result ≡ step (State.Head rule display) self.now }
     {
         match self.kind {
             Kind::UserData => Ok(State::Head(rule, display)),
@@ -50,8 +53,9 @@ impl KnownUnit<'_> {
         }
     }
 
-    fn in_picture(self, rule: SliceRule) -> Result<State, Reason>
-        ensures { result ≡ known_step (State.Picture rule) self.entry }
+    #[tactic(auto, unfolding(grammar::specs::Reader::step))]
+    fn in_picture(&self, rule: SliceRule) -> Result<State, Reason>
+        ensures { result ≡ step (State.Picture rule) self.now }
     {
         match self.kind {
             Kind::Slice => steps::slice_step(rule, 0, self.code, self.body),
@@ -63,8 +67,9 @@ impl KnownUnit<'_> {
         }
     }
 
-    fn after_slice(self, rule: SliceRule, least: u32) -> Result<State, Reason>
-        ensures { result ≡ known_step (State.Slices rule least) self.entry }
+    #[tactic(auto, unfolding(grammar::specs::Reader::step))]
+    fn after_slice(&self, rule: SliceRule, least: u32) -> Result<State, Reason>
+        ensures { result ≡ step (State.Slices rule least) self.now }
     {
         match self.kind {
             Kind::Slice => steps::slice_step(rule, least, self.code, self.body),
@@ -77,34 +82,37 @@ impl KnownUnit<'_> {
         }
     }
 
-    // After B1 only B7 may stand.
-    fn after_end(self) -> Result<State, Reason>
-        ensures { result ≡ known_step State.Ended self.entry }
+    // At the start only B0 may stand, and after B1 only B7.
+    #[tactic(auto, unfolding(grammar::specs::Reader::step))]
+    fn in_state(&self, state: State) -> Result<State, Reason>
+        ensures { result ≡ step state self.now }
     {
-        match self.kind {
-            Kind::EditCode => steps::ending_step(self.body, State::Closed),
+        match (state, self.kind) {
+            (State::Start, Kind::SequenceHeader) => steps::header_step(self.body),
+            (State::Head(rule, display), _) => self.in_head(rule, display),
+            (State::Picture(rule), _) => self.in_picture(rule),
+            (State::Slices(rule, least), _) => self.after_slice(rule, least),
+            (State::Ended, Kind::EditCode) => steps::ending_step(self.body, State::Closed),
             _ => Err(Reason::OutOfPlace),
-        }
-    }
-
-    fn in_state(self, state: State) -> Result<State, Reason>
-        ensures { result ≡ known_step state self.entry }
-    {
-        match state {
-            State::Start => self.at_start(),
-            State::Head(rule, display) => self.in_head(rule, display),
-            State::Picture(rule) => self.in_picture(rule),
-            State::Slices(rule, least) => self.after_slice(rule, least),
-            State::Ended => self.after_end(),
-            State::Closed => Err(Reason::OutOfPlace),
         }
     }
 
     // ── its row's length ──
 
+    // Where it stands that is read in a state: in a group's head, which the first picture ends, or elsewhere.
+    fn scope_in(&self, state: State) -> Scope
+        ensures { result ≡ scope_in state self.now }
+    {
+        match (state, self.kind) {
+            (State::Head(_, _), Kind::IPicture) => Scope::Picture,
+            (State::Head(_, _), _) => Scope::Head,
+            _ => Scope::Picture,
+        }
+    }
+
     // Whether its row's body is whole: that of user data, which may end in zero bytes, and of opaque extensions.
-    fn is_whole(self, scope: Scope) -> bool
-        ensures { result ≡ known_whole scope self.entry }
+    fn is_whole(&self, scope: Scope) -> bool
+        ensures { result ≡ is_whole (placed scope self.now) }
     {
         match self.kind {
             Kind::UserData => true,
@@ -114,8 +122,9 @@ impl KnownUnit<'_> {
     }
 
     // The body without its trailing zero bytes, or the whole body.
-    fn length_in(self, scope: Scope) -> usize
-        ensures { result ≡ known_length scope self.entry }
+    #[tactic(auto, unfolding(grammar::specs::Rows::row_length))]
+    fn length_in(&self, scope: Scope) -> usize
+        ensures { result ≡ row_length (placed scope self.now) }
     {
         if self.is_whole(scope) {
             return self.body.len();
@@ -125,16 +134,6 @@ impl KnownUnit<'_> {
 }
 
 // ── a row's length ──
-
-// Where an extension stands that is read in this state.
-fn scope_in(state: State) -> Scope
-    ensures { result ≡ extension_scope state }
-{
-    match state {
-        State::Head(_, _) => Scope::Head,
-        _ => Scope::Picture,
-    }
-}
 
 // The length without trailing zero bytes.
 fn trimmed_length(body: &[u8]) -> usize
@@ -149,6 +148,7 @@ fn trimmed_length(body: &[u8]) -> usize
 }
 
 // The length of the row of a unit with this code byte and body, which stands in a scope.
+#[tactic(auto, unfolding(grammar::specs::Rows::row_length))]
 pub fn row_length(scope: Scope, code: u8, body: &[u8]) -> usize
     ensures { result ≡ row_length (placed scope (record { code = code; body = body.now })) }
 {
@@ -161,6 +161,7 @@ pub fn row_length(scope: Scope, code: u8, body: &[u8]) -> usize
 // ── one unit of a stream ──
 
 // A unit with this code byte and body, which ends at an offset.
+#[tactic(auto, unfolding(grammar::specs::Reader::step))]
 fn unit_of(state: State, code: u8, body: &[u8], end: usize) -> Result<NextUnit, Reason>
     ensures { result ≡ unit_from state (record { code = code; body = body.now }) end }
 {
@@ -171,7 +172,7 @@ fn unit_of(state: State, code: u8, body: &[u8], end: usize) -> Result<NextUnit, 
             Ok(NextUnit {
                 state: next,
                 end,
-                length: unit.length_in(scope_in(state)),
+                length: unit.length_in(unit.scope_in(state)),
             })
         }
         None => Err(Reason::Unknown),
