@@ -22,7 +22,7 @@ pub struct NextUnit {
     pub length: usize,
 }
 
-// A unit whose code byte has a kind. The kind is found once.
+// A unit whose code has a kind, which is found once. Contracts see the unit alone.
 #[derive(Drop)]
 struct KnownUnit<'a> {
     kind: Kind,
@@ -99,7 +99,7 @@ impl KnownUnit<'_> {
 
     // ── its row's length ──
 
-    // Where it stands that is read in a state: in a group's head, which the first picture ends, or elsewhere.
+    // Where it stands, read in a state: in a group's head, which ends before the first picture, or elsewhere.
     fn scope_in(&self, state: State) -> Scope
         ensures { result ≡ scope_in state self.now }
     {
@@ -165,18 +165,14 @@ pub fn row_length(scope: Scope, code: u8, body: &[u8]) -> usize
 fn unit_of(state: State, code: u8, body: &[u8], end: usize) -> Result<NextUnit, Reason>
     ensures { result ≡ unit_from state (record { code = code; body = body.now }) end }
 {
-    match startcode::kind_of(code) {
-        Some(kind) => {
-            let unit = KnownUnit { kind, code, body };
-            let next = unit.in_state(state)?;
-            Ok(NextUnit {
-                state: next,
-                end,
-                length: unit.length_in(unit.scope_in(state)),
-            })
-        }
-        None => Err(Reason::Unknown),
-    }
+    let kind = startcode::kind_of(code).ok_or(Reason::Unknown)?;
+    let unit = KnownUnit { kind, code, body };
+    let next = unit.in_state(state)?;
+    Ok(NextUnit {
+        state: next,
+        end,
+        length: unit.length_in(unit.scope_in(state)),
+    })
 }
 
 // The unit at an offset, read in a state; or why it is refused; or that no unit begins there.
