@@ -1,3 +1,2 @@
 -- One unit of a stream, read in a state.
 pub mod Reader
-pub mod Inside

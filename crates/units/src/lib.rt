@@ -1,16 +1,18 @@
 // One unit of a stream, read in the state that the units before it lead to.
 #![tactic(auto)]
 
-ghost use Rattle.std.specs.Prelude.{◌≡◌, [], ◌∷◌, cond, length};
+ghost use Rattle.std.specs.Prelude.{◌≡◌, length};
 ghost use Rattle.answers.specs.Answers.{done};
-ghost use Rattle.grammar.specs.Rows.{placed, trimmed, whole_body, row_length};
-ghost use Rattle.grammar.specs.Reader.{choose, table, header_step, ending_step};
+ghost use Rattle.startcode.specs.Kinds.{kind_of};
+ghost use Rattle.grammar.specs.Grammar.{StreamUnit};
+ghost use Rattle.grammar.specs.Rows.{placed, trimmed, is_whole, row_length};
+ghost use Rattle.grammar.specs.Reader.{step, scope_in};
 ghost use Rattle.units.specs.Reader.{unit_from, unit_at};
-ghost use Rattle.units.specs.Inside.{extension_scope};
 
 use bodies::Scope;
 use grammar::{Reason, SliceRule, State};
 use startcode::Kind;
+use std::marker::Model;
 
 // What follows a unit: the state after it, where it ends, and its row's length.
 #[derive(Clone, Copy, Debug, PartialEq, Eq)]
@@ -20,111 +22,118 @@ pub struct NextUnit {
     pub length: usize,
 }
 
-// ── one unit, by the state that it is read in ──
-
-// At the start only B0 may stand.
-fn at_start(kind: Kind, body: &[u8]) -> Result<State, Reason>
-    ensures { result ≡ choose kind ((Kind.SequenceHeader, header_step body.now) ∷ []) }
-{
-    match kind {
-        Kind::SequenceHeader => steps::header_step(body),
-        _ => Err(Reason::OutOfPlace),
-    }
-}
-
-fn in_head(
-    rule: SliceRule,
-    display: bool,
+// A unit whose code has a kind, which is found once. Contracts see the unit alone.
+#[derive(Drop)]
+struct KnownUnit<'a> {
     kind: Kind,
     code: u8,
-    body: &[u8],
-) -> Result<State, Reason>
-    ensures { result ≡ choose kind (table (State.Head rule display) (record { code = code; body = body.now })) }
-{
-    match kind {
-        Kind::UserData => Ok(State::Head(rule, display)),
-        Kind::Extension => steps::head_extension(rule, display, body),
-        Kind::IPicture => steps::picture_step(rule, body),
-        _ => Err(Reason::OutOfPlace),
-    }
+    body: &'a [u8],
 }
 
-fn in_picture(rule: SliceRule, kind: Kind, code: u8, body: &[u8]) -> Result<State, Reason>
-    ensures { result ≡ choose kind (table (State.Picture rule) (record { code = code; body = body.now })) }
-{
-    match kind {
-        Kind::Slice => steps::slice_step(rule, 0, code, body),
-        Kind::UserData => Ok(State::Picture(rule)),
-        Kind::Extension => steps::extension_step(body, Scope::Picture, State::Picture(rule)),
-        _ => Err(Reason::OutOfPlace),
-    }
+impl<'a> Model for KnownUnit<'a> {
+    ghost Value = { StreamUnit };
+
+    ghost view = { λ u. record { code = u.code; body = u.body.now } };
+
+    ghost invariant = { λ u. kind_of u.code ≡ done u.kind };
 }
 
-fn after_slice(
-    rule: SliceRule,
-    least: u32,
-    kind: Kind,
-    code: u8,
-    body: &[u8],
-) -> Result<State, Reason>
-    ensures { result ≡ choose kind (table (State.Slices rule least) (record { code = code; body = body.now })) }
-{
-    match kind {
-        Kind::Slice => steps::slice_step(rule, least, code, body),
-        Kind::IPicture => steps::picture_step(rule, body),
-        Kind::PBPicture => steps::picture_step(rule, body),
-        Kind::SequenceHeader => steps::header_step(body),
-        Kind::SequenceEnd => steps::ending_step(body, State::Ended),
-        Kind::EditCode => steps::ending_step(body, State::Closed),
-        _ => Err(Reason::OutOfPlace),
-    }
-}
+impl KnownUnit<'_> {
+    // ── what follows it, by the state that it is read in ──
 
-// After B1 only B7 may stand.
-fn after_end(kind: Kind, body: &[u8]) -> Result<State, Reason>
-    ensures { result ≡ choose kind ((Kind.EditCode, ending_step body.now State.Closed) ∷ []) }
-{
-    match kind {
-        Kind::EditCode => steps::ending_step(body, State::Closed),
-        _ => Err(Reason::OutOfPlace),
+    #[tactic(auto, unfolding(grammar::specs::Reader::step))]
+    fn in_head(&self, rule: SliceRule, display: bool) -> Result<State, Reason>
+        ensures { result ≡ step (State.Head rule display) self.now }
+    {
+        match self.kind {
+            Kind::UserData => Ok(State::Head(rule, display)),
+            Kind::Extension => steps::head_extension(rule, display, self.body),
+            Kind::IPicture => steps::picture_step(rule, self.body),
+            _ => Err(Reason::OutOfPlace),
+        }
     }
-}
 
-fn in_state(state: State, kind: Kind, code: u8, body: &[u8]) -> Result<State, Reason>
-    ensures { result ≡ choose kind (table state (record { code = code; body = body.now })) }
-{
-    match state {
-        State::Start => at_start(kind, body),
-        State::Head(rule, display) => in_head(rule, display, kind, code, body),
-        State::Picture(rule) => in_picture(rule, kind, code, body),
-        State::Slices(rule, least) => after_slice(rule, least, kind, code, body),
-        State::Ended => after_end(kind, body),
-        State::Closed => Err(Reason::OutOfPlace),
+    #[tactic(auto, unfolding(grammar::specs::Reader::step))]
+    fn in_picture(&self, rule: SliceRule) -> Result<State, Reason>
+        ensures { result ≡ step (State.Picture rule) self.now }
+    {
+        match self.kind {
+            Kind::Slice => steps::slice_step(rule, 0, self.code, self.body),
+            Kind::UserData => Ok(State::Picture(rule)),
+            Kind::Extension => {
+                steps::extension_step(self.body, Scope::Picture, State::Picture(rule))
+            }
+            _ => Err(Reason::OutOfPlace),
+        }
+    }
+
+    #[tactic(auto, unfolding(grammar::specs::Reader::step))]
+    fn after_slice(&self, rule: SliceRule, least: u32) -> Result<State, Reason>
+        ensures { result ≡ step (State.Slices rule least) self.now }
+    {
+        match self.kind {
+            Kind::Slice => steps::slice_step(rule, least, self.code, self.body),
+            Kind::IPicture => steps::picture_step(rule, self.body),
+            Kind::PBPicture => steps::picture_step(rule, self.body),
+            Kind::SequenceHeader => steps::header_step(self.body),
+            Kind::SequenceEnd => steps::ending_step(self.body, State::Ended),
+            Kind::EditCode => steps::ending_step(self.body, State::Closed),
+            _ => Err(Reason::OutOfPlace),
+        }
+    }
+
+    // At the start only B0 may stand, and after B1 only B7.
+    #[tactic(auto, unfolding(grammar::specs::Reader::step))]
+    fn in_state(&self, state: State) -> Result<State, Reason>
+        ensures { result ≡ step state self.now }
+    {
+        match (state, self.kind) {
+            (State::Start, Kind::SequenceHeader) => steps::header_step(self.body),
+            (State::Head(rule, display), _) => self.in_head(rule, display),
+            (State::Picture(rule), _) => self.in_picture(rule),
+            (State::Slices(rule, least), _) => self.after_slice(rule, least),
+            (State::Ended, Kind::EditCode) => steps::ending_step(self.body, State::Closed),
+            _ => Err(Reason::OutOfPlace),
+        }
+    }
+
+    // ── its row's length ──
+
+    // Where it stands, read in a state: in a group's head, which ends before the first picture, or elsewhere.
+    fn scope_in(&self, state: State) -> Scope
+        ensures { result ≡ scope_in state self.now }
+    {
+        match (state, self.kind) {
+            (State::Head(_, _), Kind::IPicture) => Scope::Picture,
+            (State::Head(_, _), _) => Scope::Head,
+            _ => Scope::Picture,
+        }
+    }
+
+    // Whether its row's body is whole: that of user data, which may end in zero bytes, and of opaque extensions.
+    fn is_whole(&self, scope: Scope) -> bool
+        ensures { result ≡ is_whole (placed scope self.now) }
+    {
+        match self.kind {
+            Kind::UserData => true,
+            Kind::Extension => bodies::is_opaque(self.body, scope),
+            _ => false,
+        }
+    }
+
+    // The body without its trailing zero bytes, or the whole body.
+    #[tactic(auto, unfolding(grammar::specs::Rows::row_length))]
+    fn length_in(&self, scope: Scope) -> usize
+        ensures { result ≡ row_length (placed scope self.now) }
+    {
+        if self.is_whole(scope) {
+            return self.body.len();
+        }
+        trimmed_length(self.body)
     }
 }
 
 // ── a row's length ──
-
-// Where an extension stands that is read in this state.
-fn scope_in(state: State) -> Scope
-    ensures { result ≡ extension_scope state }
-{
-    match state {
-        State::Head(_, _) => Scope::Head,
-        _ => Scope::Picture,
-    }
-}
-
-// Whether a row's body is whole: that of user data, which may end in zero bytes, and of opaque extensions.
-fn is_whole(scope: Scope, kind: Kind, body: &[u8]) -> bool
-    ensures { result ≡ whole_body (done kind) scope body.now }
-{
-    match kind {
-        Kind::UserData => true,
-        Kind::Extension => bodies::is_opaque(body, scope),
-        _ => false,
-    }
-}
 
 // The length without trailing zero bytes.
 fn trimmed_length(body: &[u8]) -> usize
@@ -138,43 +147,32 @@ fn trimmed_length(body: &[u8]) -> usize
     0
 }
 
-// The body without its trailing zero bytes, or the whole body.
-fn length_in(scope: Scope, kind: Kind, body: &[u8]) -> usize
-    ensures { result ≡ length (cond (whole_body (done kind) scope body.now) body.now (trimmed body.now)) }
-{
-    if is_whole(scope, kind, body) {
-        return body.len();
-    }
-    trimmed_length(body)
-}
-
 // The length of the row of a unit with this code byte and body, which stands in a scope.
+#[tactic(auto, unfolding(grammar::specs::Rows::row_length))]
 pub fn row_length(scope: Scope, code: u8, body: &[u8]) -> usize
     ensures { result ≡ row_length (placed scope (record { code = code; body = body.now })) }
 {
     match startcode::kind_of(code) {
-        Some(kind) => length_in(scope, kind, body),
+        Some(kind) => KnownUnit { kind, code, body }.length_in(scope),
         None => trimmed_length(body),
     }
 }
 
 // ── one unit of a stream ──
 
-// A unit with this code byte and body, which ends at an offset. Its kind is found once.
+// A unit with this code byte and body, which ends at an offset.
+#[tactic(auto, unfolding(grammar::specs::Reader::step))]
 fn unit_of(state: State, code: u8, body: &[u8], end: usize) -> Result<NextUnit, Reason>
     ensures { result ≡ unit_from state (record { code = code; body = body.now }) end }
 {
-    match startcode::kind_of(code) {
-        Some(kind) => {
-            let next = in_state(state, kind, code, body)?;
-            Ok(NextUnit {
-                state: next,
-                end,
-                length: length_in(scope_in(state), kind, body),
-            })
-        }
-        None => Err(Reason::Unknown),
-    }
+    let kind = startcode::kind_of(code).ok_or(Reason::Unknown)?;
+    let unit = KnownUnit { kind, code, body };
+    let next = unit.in_state(state)?;
+    Ok(NextUnit {
+        state: next,
+        end,
+        length: unit.length_in(unit.scope_in(state)),
+    })
 }
 
 // The unit at an offset, read in a state; or why it is refused; or that no unit begins there.
