@@ -73,41 +73,14 @@ module _ (s : List ℕ) (at : ℕ) (h : Here s at) (l : at + 3 < length s) where
       by_test (begins (drop (at + 3) s)) over_units (λ f. let d = next_fits s at prefixed l f in absurd (n (omega (arith, d.0), omega (arith, d.1))))
 
   -- the unit, and where the next one begins
-  pub units_more : (end : ℕ) → end ≡ next → at + 4 ≤ end → (units_from s at ≡ unit_between s at end ∷ units_from s end) × (Here s end × (at < end))
+  pub units_more : (end : ℕ) → end ≡ next → at + 4 ≤ end → (units_from s at ≡ unit_between s at end ∷ units_from s end) × Here s end
   units_more end e k =
       by_test (begins (drop (at + 3) s))
       (λ t. let o = over_next t in absurd (omega arith))
       (λ f.
-      let n : at < next = omega arith in
-      rw e (unit_units f, (record { inside = (next_fits s at prefixed l f).1; prefix = next_begins s at prefixed l f }, n)))
-
--- ── a group's head ──
-
--- what holds where the display extension is sought
-pub record Showing (s : List ℕ) (from at : ℕ) : Type 0 where
-  pub here : Here s at
-  pub same : display_in (units_from s from) ≡ display_in (units_from s at)
-
-pub show_end : (s : List ℕ) (from at : ℕ) → Showing s from at → units_from s at ≡ [] → None ≡ display_in (units_from s from)
-unfolding display_in
-show_end s from at h e = sym (h.same ∙ ap display_in e)
-
--- one unit more
-pub show_next : (s : List ℕ) (from at next : ℕ) (u : StreamUnit) → Showing s from at → units_from s at ≡ u ∷ units_from s next →
-    in_head (kind_of u.code) u.body (display_in (units_from s next)) ≡ display_in (units_from s from)
-unfolding display_in
-show_next s from at next u h e = sym (h.same ∙ ap display_in e)
+      rw e (unit_units f, record { inside = (next_fits s at prefixed l f).1; prefix = next_begins s at prefixed l f }))
 
 -- ── groups ──
-
--- what holds where group g is sought, `skip` groups from here
-pub record Counting (s : List ℕ) (g skip at : ℕ) : Type 0 where
-  pub here : Here s at
-  pub same : group_in g (units_from s 0) ≡ group_in skip (units_from s at)
-
-pub count_end : (s : List ℕ) (g skip at : ℕ) → Counting s g skip at → units_from s at ≡ [] → refused NO_ROW [] ≡ group_in g (units_from s 0)
-unfolding group_in
-count_end s g skip at h e = sym (h.same ∙ ap (group_in skip) e)
 
 module _ (u : StreamUnit) (us : List StreamUnit) where
   -- a unit that begins no group
@@ -126,16 +99,3 @@ module _ (u : StreamUnit) (us : List StreamUnit) where
   pub this_group : (skip : ℕ) → begins_group u ≡ true → skip ≡ 0 → group_in skip (u ∷ us) ≡ group_of (header_of u.body) (display_in us)
   unfolding group_in
   this_group skip t e = rw (e, t)
-
-module _ (s : List ℕ) (g skip at next : ℕ) (u : StreamUnit) (h : Counting s g skip at) (is : units_from s at ≡ u ∷ units_from s next) where
-  step : group_in g (units_from s 0) ≡ group_in skip (u ∷ units_from s next)
-  step = h.same ∙ ap (group_in skip) is
-
-  pub count_other : Here s next → begins_group u ≡ false → Counting s g skip next
-  count_other k f = record { here = k; same = step ∙ past_other u (units_from s next) skip f }
-
-  pub count_group : Here s next → begins_group u ≡ true → (skip ≡ 0 → ⊥) → Counting s g (skip - 1) next
-  count_group k t n = record { here = k; same = step ∙ past_group u (units_from s next) skip t n }
-
-  pub count_found : begins_group u ≡ true → skip ≡ 0 → group_of (header_of u.body) (display_in (units_from s next)) ≡ group_in g (units_from s 0)
-  count_found t e = sym (step ∙ this_group u (units_from s next) skip t e)

@@ -23,11 +23,9 @@ pub record Here (stream : List ℕ) (at : ℕ) : Type 0 where
   pub inside : at ≤ length stream
   pub prefix : at < length stream → begins (drop at stream) ≡ true
 
--- the first of the units from an offset on, and that the others begin where it ends; or there is none
-abbrev pub Stands : List ℕ → ℕ → Option UnitHere → Type 0
-Stands stream at (Some u) =
-    (units_from stream at ≡ record { code = u.code; body = u.body.now } ∷ units_from stream u.next) × (Here stream u.next × (at < u.next))
-Stands stream at None = units_from stream at ≡ []
+-- a unit as the code has it
+abbrev pub unit_of : UnitHere → StreamUnit
+unit_of u = record { code = u.code; body = u.body.now }
 
 -- the display extension, by what a unit of the head says and by those after it
 abbrev pub display_by : InHead → Option DisplayExtension → Option DisplayExtension

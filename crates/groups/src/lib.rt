@@ -1,19 +1,22 @@
 // Group g of a stream: its header record, with the display extension given or not given.
 #![tactic(auto)]
 
-ghost use Rattle.std.specs.Prelude.{◌≡◌};
+ghost use Rattle.std.specs.Prelude.{◌≡◌, List};
+ghost use Rattle.std.specs.Iterator.{YieldsFirstBy, item_count};
 ghost use Rattle.answers.specs.Answers.{done};
 ghost use Rattle.bodies.specs.Reader.{header_of, extension_of};
 ghost use Rattle.startcode.specs.Kinds.{kind_of};
+ghost use Rattle.grammar.specs.Grammar.{StreamUnit};
 ghost use Rattle.grammar.specs.Reader.{is_kind};
 ghost use Rattle.groups.specs.Groups.{group_says};
 ghost use Rattle.groups.specs.Reader.{shown, in_head, display_in, group_of, group_in, group_at};
 ghost use Rattle.groups.specs.declared.GroupError.TheVariants.{Refused};
-ghost use Rattle.groups.specs.Inside.{Tells, units_from, Here, Stands};
+ghost use Rattle.groups.specs.Inside.{Tells, unit_of, units_from, Here};
 
 use bodies::{DisplayExtension, ExtensionBody, Scope, SequenceHeader};
 use filing::Refusal;
 use startcode::Kind;
+use std::marker::Model;
 
 // A group's header record, and the display extension of its head where that is given.
 #[derive(Clone, Copy)]
@@ -37,12 +40,42 @@ impl From<Refusal> for GroupError {
     }
 }
 
-// A unit as it stands in a stream, and where the next one begins.
+// A unit as it stands in a stream.
 #[derive(Clone, Copy)]
 struct UnitHere<'a> {
     code: u8,
     body: &'a [u8],
-    next: usize,
+}
+
+// The units of a stream from an offset on.
+#[derive(Drop)]
+struct Units<'a> {
+    stream: &'a [u8],
+    at: usize,
+}
+
+impl<'a> Model for Units<'a> {
+    ghost Value = { List StreamUnit };
+
+    ghost view = { λ u. units_from u.stream.now u.at };
+
+    ghost invariant = { λ u. Here u.stream.now u.at };
+}
+
+impl<'a> Iterator for Units<'a> {
+    type Item = UnitHere<'a>;
+
+    ghost next_gives = { YieldsFirstBy unit_of (λ rest. rest) };
+
+    ghost remaining = { item_count (λ rest. rest) };
+
+    fn next(&mut self) -> Option<UnitHere<'a>> {
+        let code = *self.stream.get(self.at + 3)?;
+        let next = startcode::next_prefix(self.stream, self.at + 3);
+        let body = self.stream.get(self.at + 4..next)?;
+        self.at = next;
+        Some(UnitHere { code, body })
+    }
 }
 
 // What a unit after a sequence header is: the display extension, another unit of the group's head, or past it. Neither an Option nor a
@@ -84,34 +117,19 @@ fn in_group_head(code: u8, body: &[u8]) -> InHead
     }
 }
 
-// ── from an offset on ──
+// ── the units that are left ──
 
-// The unit at an offset of a stream, and where the next one begins; or none where the stream ends. Not an iterator: that is a struct with
-// an invariant and laws of its own, and two loops would be no shorter.
-fn unit_here(stream: &[u8], at: usize) -> Option<UnitHere<'_>>
-    requires { Here stream.now at }
-    ensures { Stands stream.now at result }
+// The display extension of the group's head that these units go on.
+#[tactic(auto, unfolding(crate::specs::Reader::display_in))]
+fn display_in(units: Units<'_>) -> Option<DisplayExtension>
+    ensures { result ≡ display_in units.entry }
 {
-    let code = *stream.get(at + 3)?;
-    let next = startcode::next_prefix(stream, at + 3);
-    let body = stream.get(at + 4..next)?;
-    Some(UnitHere { code, body, next })
-}
-
-// The display extension of the group's head that goes on at an offset.
-fn display_from(stream: &[u8], from: usize) -> Option<DisplayExtension>
-    requires { Here stream.now from }
-    ensures { result ≡ display_in (units_from stream.now from) }
-{
-    let mut at = from;
-    while let Some(unit) = unit_here(stream, at) {
+    for unit in units {
         match in_group_head(unit.code, unit.body) {
             InHead::Display(d) => {
                 return Some(d);
             }
-            InHead::Other => {
-                at = unit.next;
-            }
+            InHead::Other => {}
             InHead::Past => {
                 return None;
             }
@@ -120,36 +138,32 @@ fn display_from(stream: &[u8], from: usize) -> Option<DisplayExtension>
     None
 }
 
-// The group whose sequence header has this body; its head goes on at an offset.
+// The group whose sequence header has this body; these units go on its head.
 #[tactic(auto, unfolding(bodies::specs::Reader::header_of, bodies::specs::Answers::answer_of))]
-fn group_here(stream: &[u8], body: &[u8], from: usize) -> Result<Group, GroupError>
-    requires { Here stream.now from }
-    ensures { group_says result ≡ group_of (header_of body.now) (display_in (units_from stream.now from)) }
+fn group_here(body: &[u8], rest: Units<'_>) -> Result<Group, GroupError>
+    ensures { group_says result ≡ group_of (header_of body.now) (display_in rest.entry) }
 {
     match bodies::sequence_header(body) {
         Ok(header) => Ok(Group {
             header,
-            display: display_from(stream, from),
+            display: display_in(rest),
         }),
         Err(_) => Err(GroupError::NoRow),
     }
 }
 
-// Group g of a stream that begins with a start code. Of the groups before it nothing is read but the codes.
-fn group_number(stream: &[u8], g: usize) -> Result<Group, GroupError>
-    requires { Here stream.now 0 }
-    ensures { group_says result ≡ group_in g (units_from stream.now 0) }
+// Group g of these units. Of the groups before it nothing is read but the codes.
+fn group_in(mut units: Units<'_>, g: usize) -> Result<Group, GroupError>
+    ensures { group_says result ≡ group_in g units.entry }
 {
     let mut skip = g;
-    let mut at: usize = 0;
-    while let Some(unit) = unit_here(stream, at) {
+    while let Some(unit) = units.next() {
         if begins_group(unit.code) {
             if skip == 0 {
-                return group_here(stream, unit.body, unit.next);
+                return group_here(unit.body, units);
             }
             skip -= 1;
         }
-        at = unit.next;
     }
     Err(GroupError::NoRow)
 }
@@ -159,5 +173,5 @@ pub fn group_at(stream: &[u8], g: usize) -> Result<Group, GroupError>
     ensures { group_says result ≡ group_at stream.now g }
 {
     filing::check(stream)?;
-    group_number(stream, g)
+    group_in(Units { stream, at: 0 }, g)
 }

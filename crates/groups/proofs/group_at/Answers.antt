@@ -5,11 +5,11 @@ use Rattle.filing.specs.Filing.{filing_says}
 use Rattle.groups.proofs.Theorems.{here_start, at_good, at_refused}
 use Rattle.groups.proofs.group_at.Goals as goal
 
-pub group_number-requires : goal.group_number-requires
-group_number-requires c = here_start c.args.stream.now c.args.g _ (sym (ap filing_says c.in_ok-check.was) ∙ c.check.ensures)
+pub invariant_of-group_in : goal.invariant_of-group_in
+invariant_of-group_in c = here_start c.args.stream.now c.args.g _ (sym (ap filing_says c.in_ok-check.was) ∙ c.check.ensures)
 
 pub returns : goal.returns
-returns c = let a = c.args in c.group_number.ensures ∙ at_good a.stream.now a.g _ (sym (ap filing_says c.in_ok-check.was) ∙ c.check.ensures)
+returns c = let a = c.args in c.group_in.ensures ∙ at_good a.stream.now a.g _ (sym (ap filing_says c.in_ok-check.was) ∙ c.check.ensures)
 
 pub returns-in_err-check : goal.returns-in_err-check
 returns-in_err-check c =
