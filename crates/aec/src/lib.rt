@@ -163,6 +163,7 @@ impl Limited<'_> {
             beside: 0,
             place,
         };
+        // Not a for: how often is what is asked.
         while z.value < 256 {
             let more = self.take_bit(z.value, z.place)?;
             z = Shift {
@@ -184,6 +185,7 @@ impl Limited<'_> {
             beside: range,
             place,
         };
+        // Not a for: the range says when it ends.
         while z.beside < 256 {
             let more = self.take_bit(z.value, z.place)?;
             z = Shift {
@@ -323,7 +325,7 @@ impl<'a> Guarded<'a> {
         })
     }
 
-    // The same in a place of its own.
+    // The same in a place of its own. Field by field: a plain copy shares the place, and the quick way then leaves the registers.
     fn copied(self) -> Guarded<'a>
         ensures { (result.limited ≡ self.entry.limited) × (result.state ≡ self.entry.state) }
     {

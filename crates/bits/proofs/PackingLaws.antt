@@ -25,10 +25,6 @@ pub pack_full : (value k b : ℕ) (l : List ℕ) → k ≡ 7 → pack_on value k
 unfolding pack_on
 pack_full value k b l h = simp (eq-eqb k 7 h)
 
-pub pack_none : (value k : ℕ) → k ≡ 0 → pack_on value k [] ≡ []
-unfolding pack_on
-pack_none value k h = rw h
-
 pub pack_last : (value k : ℕ) → (k ≡ 0 → ⊥) → pack_on value k [] ≡ (value * 2 ^ (8 - k)) ∷ []
 unfolding pack_on
 pack_last value zero h = absurd (h refl)

@@ -27,7 +27,7 @@ pub struct SequenceHeader {
     pub buffer: u32,
 }
 
-#[derive(Clone, Copy, Debug, PartialEq, Eq)]
+#[derive(Clone, Copy)]
 pub struct Colour {
     pub primaries: u32,
     pub transfer: u32,

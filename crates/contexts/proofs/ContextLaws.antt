@@ -54,10 +54,6 @@ module _ (c : Context) (bin w next : ℕ) (good : good_context c ≡ true) (rate
   unfolding update_of fold_of
   update_fold h k = rw (next_is, ← rate-is) (simp (good, h, lt-leb _ _ k))
 
--- a context within its ranges is updated
-pub updated_is : (c : Context) (bin : ℕ) → good_context c ≡ true → updated_of c bin ≡ update_of c bin
-updated_is c bin good = simp good
-
 pub fold_ranges : (c : Context) → c.mps ≤ 1 → 4 ≤ c.lg → c.lg ≤ 2043 → c.cycno ≤ 3 → ContextRanges (fold_of c)
 unfolding fold_of
 fold_ranges c m l h n =

@@ -1,4 +1,5 @@
-// The tables of rates, as they are read: from words of read-only memory, four entries each.
+// The tables of rates, as they are read: from words of read-only memory, four entries each. Not from rates' arrays: these words are half as
+// large, and the edits of single entries are of them.
 #![tactic(auto)]
 
 ghost use Rattle.std.specs.Prelude.{◌≡◌, ◌%◌};

@@ -38,7 +38,7 @@ fn is_final(state: State) -> bool
     matches!(state, State::Ended | State::Closed)
 }
 
-// A span in 16 bits: 0 where it does not fit.
+// A span in 16 bits: 0 where it does not fit. Not an Option, which is twice as large.
 fn short_span(span: usize) -> u16
     ensures { result ≡ short_span span }
 {
@@ -121,7 +121,7 @@ pub fn check(stream: &[u8]) -> Result<usize, Refusal>
 
 // ── the second pass ──
 
-// Row i is written: code, offset, length. Not copied from an array: three words by name are as plain, and no call.
+// Row i is written: code, offset, length. Not as_chunks_mut: after it a proof knows nothing of the slice.
 fn put_row(rows: &mut [u32], i: usize, code: u8, offset: usize, length: usize)
     requires { (i * 3 + 3 ≤ ListN.length rows.old) × (offset < 4294967296) × (length < 4294967296) }
     ensures { rows.new ≡ take (i * 3) rows.old ++ (code ∷ offset ∷ length ∷ drop (i * 3 + 3) rows.old) }

@@ -6,7 +6,8 @@ ghost use Rattle.grammar.specs.Reasons.{reason_number};
 
 use layout::Fault;
 
-// A group's slice rule: whether slices are tested, and the macroblock rows.
+// A group's slice rule: whether slices are tested, and the macroblock rows. Not an Option of the rows: a state tells them where slices are
+// not tested too.
 #[derive(Clone, Copy, Debug, PartialEq, Eq)]
 pub struct SliceRule {
     pub tested: bool,
@@ -43,7 +44,7 @@ pub enum Reason {
     TooLong,
 }
 
-// The number of what a stream is refused for.
+// The number of what a stream is refused for. A match, since a body's fault has a number of its own.
 pub fn reason_number(why: Reason) -> u32
     ensures { result ≡ reason_number why }
 {

@@ -39,10 +39,6 @@ number_parts n one two three h k = ((λ e. (omega arith, omega arith, omega arit
 numbered_parts : (one two three : ℕ) → not (eqb (copyright_number one two three) 0) ≡ not (eqb one 0) || (not (eqb two 0) || not (eqb three 0))
 numbered_parts one two three = grind (arith, nat_tests)
 
--- what values say of the owner
-abbrev claim : List ℕ → Ownership
-claim vs = record { flag = get_or vs 1 0; owner = get_or vs 2 0; number = copyright_number (get_or vs 6 0) (get_or vs 8 0) (get_or vs 10 0) }
-
 pub owned_values : (vs : List ℕ) → length vs ≡ 11 →
     owned_by (ownership vs)
     ≡ both (refuse_if (eqb (get_or vs 1 0) 0 && not (eqb (get_or vs 2 0) 0)) (Value CopyrightOwner 5))

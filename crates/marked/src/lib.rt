@@ -1,5 +1,6 @@
-// Exp-Golomb numbers, bins and the tables' entries by value. A refusal gives back the place, the state and the contexts that were asked with, and has a
-// mark that is no number and no bin in place of what it has none of. Beside the status is how many bits were missing, for PAYLOAD OUT.
+// Exp-Golomb numbers, bins and the tables' entries by value, in C's structs and by C's parameters. A refusal gives back the place, the
+// state and the contexts that were asked with, and has a mark that is no number and no bin in place of what it has none of. Beside the
+// status is how many bits were missing, for PAYLOAD OUT.
 #![tactic(auto)]
 
 ghost use Rattle.std.specs.Prelude.{◌≡◌, ℕ, Err};
@@ -73,7 +74,7 @@ pub struct PairBin {
     pub second: Context,
 }
 
-// In place of a number, a signed number, a bin and an entry that are not there.
+// In place of a number, a signed number, a bin and an entry that are not there: C has no Option.
 const NO_NUMBER: u32 = 0xFFFFFFFF;
 
 const NO_SIGNED_NUMBER: i32 = -2147483648;
@@ -309,7 +310,7 @@ fn entry_number(entry: Option<u32>) -> u32
     entry.unwrap_or(NO_LG)
 }
 
-// The entry of the table for w, which is 3, 4 or 5, at an index.
+// The entry of the table for w, which is 3, 4 or 5, at an index. No TryFrom: nothing else has w as a number.
 pub fn next_lg(w: u32, index: u32) -> u32
     ensures { result ≡ entry_answer w index }
 {

@@ -12,7 +12,8 @@ fn bit_of(byte: u8, j: u32) -> u32
     u32::from(byte) >> (7 - j) & 1
 }
 
-// `full` bytes are written; the last k bits of `value` wait to be, and older ones are out already.
+// `full` bytes are written; the last k bits of `value` wait to be, and older ones are out already. The output is no field: the clauses
+// that name both would say no less.
 #[derive(Clone, Copy)]
 pub(crate) struct Packer {
     full: usize,

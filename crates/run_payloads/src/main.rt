@@ -156,19 +156,33 @@ fn table(rt: &impl Print, w: u32, table: &[u32; 1024]) -> io::Result<()> {
     println!(rt;)
 }
 
+fn golombs(rt: &impl Print) -> io::Result<()> {
+    for (byte, count) in [(0x80, 1), (0x40, 3), (0x60, 3)] {
+        example_golomb(rt, byte, count)?;
+    }
+    Ok(())
+}
+
+fn all_rates(rt: &impl Print) -> io::Result<()> {
+    for cycno in 0..5 {
+        rate(rt, cycno)?;
+    }
+    Ok(())
+}
+
+fn tables(rt: &impl Print) -> io::Result<()> {
+    for (w, lgs) in (3u32..6).zip(&rates::tables()) {
+        table(rt, w, lgs)?;
+    }
+    Ok(())
+}
+
 fn main(rt: HostRuntime) -> io::Result<()> {
     example_escape(&rt)?;
-    for (byte, count) in [(0x80, 1), (0x40, 3), (0x60, 3)] {
-        example_golomb(&rt, byte, count)?;
-    }
+    golombs(&rt)?;
     example_bins(&rt, 10, b"\x80\x40\x00", 1)?;
     example_bins(&rt, 11, b"\x40\x00", 3)?;
     example_bins(&rt, 12, b"\x80\x00", 1)?;
-    for cycno in 0..5 {
-        rate(&rt, cycno)?;
-    }
-    for (w, lgs) in (3u32..6).zip(&rates::tables()) {
-        table(&rt, w, lgs)?;
-    }
-    Ok(())
+    all_rates(&rt)?;
+    tables(&rt)
 }

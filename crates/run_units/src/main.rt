@@ -142,14 +142,19 @@ const PLACES: [usize; 20] = [
     18446744073709551615,
 ];
 
-fn units_in(rt: &impl Print) -> io::Result<()> {
+fn units_in(rt: &impl Print, k: usize, state: State) -> io::Result<()> {
+    for at in PLACES {
+        println!(rt;
+            "unit {k} {at} {}",
+            Read(units::unit_at(&STREAM, state, at))
+        )?;
+    }
+    Ok(())
+}
+
+fn all_units(rt: &impl Print) -> io::Result<()> {
     for (k, state) in STATES.iter().enumerate() {
-        for at in PLACES {
-            println!(rt;
-                "unit {k} {at} {}",
-                Read(units::unit_at(&STREAM, *state, at))
-            )?;
-        }
+        units_in(rt, k, *state)?;
     }
     Ok(())
 }
@@ -273,6 +278,6 @@ fn all_bodies(rt: &impl Print) -> io::Result<()> {
 }
 
 fn main(rt: HostRuntime) -> io::Result<()> {
-    units_in(&rt)?;
+    all_units(&rt)?;
     all_bodies(&rt)
 }

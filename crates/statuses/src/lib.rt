@@ -30,14 +30,14 @@ pub struct Answer {
     pub bit: usize,
 }
 
-// Refusals that carry nothing.
+// Refusals that carry nothing. Numbers and no enum, as C has them: a call answers each.
 pub const FULL: u32 = 12;
 
 const TOO_LONG: u32 = 13;
 
 pub const NO_ROW: u32 = 16;
 
-// In place of a bit that is not there.
+// In place of a bit that is not there: C has no Option.
 const NO_BIT: usize = usize::MAX;
 
 // A part of a stream.

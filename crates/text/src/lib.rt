@@ -1,6 +1,7 @@
 // Texts put into lent bytes from a place on: what does not fit is cut. The answer is the place after the text.
 // Not write!: a formatter fails where its text does not fit, and these say which of its bytes stand. The bytes lent and the place are
-// two parameters in each, and no struct: the public functions' contracts name them.
+// two parameters in each, and no struct: the public functions' contracts name them. The programs print by Hex and std; theorems and edits
+// hold these.
 #![tactic(auto)]
 
 ghost use Rattle.std.specs.Prelude.{Some, ◌≡◌, [], ◌∷◌, ◌/◌, ◌%◌, ◌<◌};

@@ -139,6 +139,7 @@ impl KnownUnit<'_> {
 fn trimmed_length(body: &[u8]) -> usize
     ensures { result ≡ length (trimmed body.now) }
 {
+    // Not split_last, which took twice as long where zeros fill a slice up.
     for n in (0..body.len()).rev() {
         if body[n] != 0 {
             return n + 1;
