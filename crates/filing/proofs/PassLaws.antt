@@ -30,13 +30,12 @@ use Rattle.grammar.proofs.Division.{Goes, sequence, user, extension, display, fi
 use Rattle.grammar.proofs.RowLaws.{rows_length}
 use Rattle.grammar.proofs.StepLaws.{step_sound}
 use Rattle.grammar.proofs.WalkLaws.{left, left_end, unit_between}
-use Rattle.units.specs.Inside.{extension_scope}
-use Rattle.units.proofs.LengthLaws.{scope_same}
 use Rattle.units.proofs.UnitLaws.{Advanced, Left, what_is_left, stands}
 use Rattle.units.specs.Reader.{unit_at}
 use Rattle.units.specs.declared.NextUnit.{NextUnit}
 use Rattle.filing.specs.Filing.{words_after}
 use Rattle.filing.specs.declared.Refusal.{Refusal}
+use Rattle.filing.proofs.ScopeLaws.{extension_scope, scope_same}
 use Rattle.filing.specs.Inside.{unit_or_refusal, offset_of, short_span, Spans, Kept, Passed, scope_after, Writable}
 
 pub any_left : (s : List ℕ) → begins s ≡ true → walk_of_any s ≡ left s Start 0
