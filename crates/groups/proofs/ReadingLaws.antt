@@ -33,7 +33,6 @@ use Rattle.grammar.proofs.HeaderLaws.{OtherKind, tail_of, tail_other, ending_oth
 use Rattle.grammar.proofs.Division.{number_two, number_not_two}
 use Rattle.groups.specs.Groups.{GroupRecord, DisplayIs, GroupIs, NthGroup}
 use Rattle.groups.specs.Reader.{shown, in_head, display_in, group_of, begins_group, group_in}
-use Rattle.groups.proofs.WalkLaws.{past_other, past_group, this_group}
 
 -- ── units that begin no group ──
 
@@ -43,9 +42,14 @@ NoHeader u = begins_group u ≡ false
 no_header : (u : StreamUnit) → OtherKind u → NoHeader u
 no_header u o = ap (is_kind kind.SequenceHeader) o.1 ∙ o.2
 
+past_other : (g : ℕ) (u : StreamUnit) (us : List StreamUnit) → NoHeader u → group_in g (u ∷ us) ≡ group_in g us
+unfolding group_in
+past_other zero u us h = rw h
+past_other (suc g) u us h = rw h
+
 skip_all : (g : ℕ) (us vs : List StreamUnit) → All NoHeader us → group_in g (us ++ vs) ≡ group_in g vs
 skip_all g [] vs h = refl
-skip_all g (u ∷ us) vs h = past_other u (us ++ vs) g h.0 ∙ skip_all g us vs h.1
+skip_all g (u ∷ us) vs h = past_other g u (us ++ vs) h.0 ∙ skip_all g us vs h.1
 
 ending_no : (e : List StreamUnit) → IsEnding e → All NoHeader e
 ending_no e h = all_map no_header e (ending_other e h)
@@ -53,7 +57,7 @@ ending_no e h = all_map no_header e (ending_other e h)
 no_group : (g : ℕ) (us : List StreamUnit) → All NoHeader us → group_in g us ≡ refused NO_ROW []
 unfolding group_in
 no_group g [] h = refl
-no_group g (u ∷ us) h = past_other u us g h.0 ∙ no_group g us h.1
+no_group g (u ∷ us) h = past_other g u us h.0 ∙ no_group g us h.1
 
 -- ── a group's head ──
 
@@ -158,15 +162,17 @@ module _ (group : Group) (h : IsGroup group) (rest : List StreamUnit) where
   heads = ap (is_kind kind.SequenceHeader) h.kind
 
   group_skip : (g : ℕ) → group_in (suc g) (group_units group ++ rest) ≡ group_in g rest
-  group_skip g = past_group group.head (body ++ rest) (suc g) heads (λ e. omega arith) ∙ ap (λ (k : ℕ). group_in k (body ++ rest)) (omega arith) ∙ skip_all g body rest body_no
+  unfolding group_in
+  group_skip g = rw heads (skip_all g body rest body_no)
 
   group_here : (x : GroupRecord) → GroupIs group x → group_in zero (group_units group ++ rest) ≡ done x
+  unfolding group_in
   group_here x k =
-      this_group group.head (body ++ rest) zero heads refl
-      ∙ ap (λ (o : Outcome SequenceHeader). group_of o (display_in (body ++ rest))) (header_read group.head.body x.header k.header)
+      rw heads
+      (ap (λ (o : Outcome SequenceHeader). group_of o (display_in (body ++ rest))) (header_read group.head.body x.header k.header)
       ∙ ap (λ (d : Option DisplayExtension). done (record { header = x.header; display = d }))
       (ap display_in (append_assoc group.extras (concat_map picture_units group.pictures) rest)
-      ∙ display_is group.extras (concat_map picture_units group.pictures ++ rest) x.display (pictures_past group.pictures rest h.first) h.extras h.one_display k.display)
+      ∙ display_is group.extras (concat_map picture_units group.pictures ++ rest) x.display (pictures_past group.pictures rest h.first) h.extras h.one_display k.display))
 
 -- ── all groups ──
 

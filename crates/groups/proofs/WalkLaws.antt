@@ -1,7 +1,6 @@
--- The walk by index: the unit at an offset, and those after it.
-use Rattle.std.proofs.Common.{None}
-use Prim.Native.Nat.{ℕ, zero, suc, ◌≤◌, ◌<◌, ◌+◌, ◌-◌}
-use mathlib.Core.Path.{◌≡◌, refl, sym, ◌∙◌, ap}
+-- The unit at an offset, and those after it.
+use Prim.Native.Nat.{ℕ, ◌≤◌, ◌<◌, ◌+◌}
+use mathlib.Core.Path.{◌≡◌, ◌∙◌, ap}
 use mathlib.Core.List.{List, [], ◌∷◌}
 use mathlib.Core.Bool.{true, false}
 use lib.Dec.{ltb}
@@ -9,16 +8,11 @@ use lib.ListN.{length, drop}
 use lib.Seq.{drop-length}
 use borrow.Author.Tests.{ltb-true, ltb-false}
 use native.Mathlib.Omega.{arith}
-use Rattle.answers.specs.Answers.{refused, NO_ROW}
 use Rattle.bits.proofs.TestLaws.{by_test}
-use Rattle.startcode.specs.Kinds.{kind_of}
 use Rattle.startcode.specs.Prefix.{begins, next_prefix}
 use Rattle.startcode.proofs.PrefixLaws.{search_start, search_hit}
-use Rattle.bodies.specs.Reader.{header_of}
-use Rattle.grammar.specs.Grammar.{StreamUnit}
 use Rattle.grammar.specs.Reader.{cut}
 use Rattle.grammar.proofs.WalkLaws.{prefix_fits, chunks_cut, chunks_overlap, unit_between, next_fits, chunks_unit, next_begins}
-use Rattle.groups.specs.Reader.{in_head, display_in, group_of, begins_group, group_in}
 use Rattle.groups.specs.Inside.{units_in, units_from, Here}
 
 from_chunks : (s : List ℕ) (at : ℕ) (chunks : List (List ℕ)) → (cut (drop at s)).chunks ≡ chunks → units_from s at ≡ units_in chunks
@@ -79,23 +73,3 @@ module _ (s : List ℕ) (at : ℕ) (h : Here s at) (l : at + 3 < length s) where
       (λ t. let o = over_next t in absurd (omega arith))
       (λ f.
       rw e (unit_units f, record { inside = (next_fits s at prefixed l f).1; prefix = next_begins s at prefixed l f }))
-
--- ── groups ──
-
-module _ (u : StreamUnit) (us : List StreamUnit) where
-  -- a unit that begins no group
-  pub past_other : (skip : ℕ) → begins_group u ≡ false → group_in skip (u ∷ us) ≡ group_in skip us
-  unfolding group_in
-  past_other zero f = rw f
-  past_other (suc n) f = rw f
-
-  -- one of the groups before it
-  pub past_group : (skip : ℕ) → begins_group u ≡ true → (skip ≡ 0 → ⊥) → group_in skip (u ∷ us) ≡ group_in (skip - 1) us
-  unfolding group_in
-  past_group zero t h = absurd (h refl)
-  past_group (suc n) t h = rw t (ap (λ (k : ℕ). group_in k us) (omega arith))
-
-  -- the group itself
-  pub this_group : (skip : ℕ) → begins_group u ≡ true → skip ≡ 0 → group_in skip (u ∷ us) ≡ group_of (header_of u.body) (display_in us)
-  unfolding group_in
-  this_group skip t e = rw (e, t)

@@ -69,6 +69,7 @@ impl<'a> Iterator for Units<'a> {
 
     ghost remaining = { item_count (λ rest. rest) };
 
+    #[tactic(auto, using(crate::proofs::WalkLaws::units_end, crate::proofs::WalkLaws::units_none, crate::proofs::WalkLaws::units_more))]
     fn next(&mut self) -> Option<UnitHere<'a>> {
         let code = *self.stream.get(self.at + 3)?;
         let next = startcode::next_prefix(self.stream, self.at + 3);
@@ -152,7 +153,9 @@ fn group_here(body: &[u8], rest: Units<'_>) -> Result<Group, GroupError>
     }
 }
 
-// Group g of these units. Of the groups before it nothing is read but the codes.
+// Group g of these units. Of the groups before it nothing is read but the codes. Not a for: what the loop leaves of the units goes on the
+// head of the group that it finds.
+#[tactic(auto, unfolding(crate::specs::Reader::group_in))]
 fn group_in(mut units: Units<'_>, g: usize) -> Result<Group, GroupError>
     ensures { group_says result ≡ group_in g units.entry }
 {
@@ -169,6 +172,7 @@ fn group_in(mut units: Units<'_>, g: usize) -> Result<Group, GroupError>
 }
 
 // Group g of a stream, counted from 0, or the stream's refusal.
+#[tactic(auto, using(crate::proofs::Theorems::here_start, crate::proofs::Theorems::at_good, crate::proofs::Theorems::at_refused))]
 pub fn group_at(stream: &[u8], g: usize) -> Result<Group, GroupError>
     ensures { group_says result ≡ group_at stream.now g }
 {
