@@ -9,7 +9,8 @@ use lib.ListN.{length}
 use Rattle.answers.specs.Limits.{longest_payload, most_bits}
 use Rattle.bits.specs.Bits.{payload}
 use Rattle.bits.proofs.BitLaws.{length_payload}
-use Rattle.bits.proofs.TestLaws.{not_held, and_true}
+use Rattle.std.proofs.lemmas.Bool.{and_parts}
+use Rattle.bits.proofs.TestLaws.{not_held}
 use Rattle.aec.specs.Bins.{good_state}
 use Rattle.aec.specs.declared.State.{State}
 
@@ -25,10 +26,10 @@ pub record StateRanges (end : ℕ) (x : State) : Type 0 where
 pub state_ranges : (end : ℕ) (x : State) → good_state end x ≡ true → StateRanges end x
 unfolding good_state
 state_ranges end x e =
-    let a = and_true _ _ e in
-    let b = and_true _ _ a.0 in
-    let c = and_true _ _ b.0 in
-    let d = and_true _ _ c.0 in
+    let a = and_parts _ _ e in
+    let b = and_parts _ _ a.0 in
+    let c = and_parts _ _ b.0 in
+    let d = and_parts _ _ c.0 in
     record { rs = leb-true _ _ d.0; vs = leb-true _ _ d.1; rt = leb-true _ _ c.1; vt = leb-true _ _ b.1; place = leb-true _ _ a.1 }
 
 pub ranges_state : (end : ℕ) (x : State) → StateRanges end x → true ≡ good_state end x

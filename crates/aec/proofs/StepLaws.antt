@@ -12,7 +12,8 @@ use Rattle.answers.specs.Answers.{Outcome, done, refused, TOO_LONG, BAD_STATE, a
 use Rattle.answers.specs.Limits.{longest_payload}
 use Rattle.bits.specs.Bits.{payload, read_at}
 use Rattle.bits.specs.Lists.{All}
-use Rattle.bits.proofs.TestLaws.{by_test, and_true}
+use Rattle.std.proofs.lemmas.Bool.{and_parts}
+use Rattle.bits.proofs.TestLaws.{by_test}
 use Rattle.bits.proofs.BitLaws.{Binary, length_in}
 use Rattle.bits.proofs.Main.{read_exactly}
 use Rattle.aec.specs.Bins.{good_state, within_limit, refused_first, double_of, split_of, misses_of, remainder_of, unpredicted_of, bin_of, step_of}
@@ -60,7 +61,7 @@ module _ (bytes : List ℕ) (count : ℕ) (x : State) (contexts : Bool) where
       let c = then_done (within_limit bytes) _ tt e in
       let good = good_state (length (payload bytes count)) x && contexts in
       let k : good ≡ true = by_test good (λ t. t) (λ f. let z : ◌≡◌ {A = ℕ} 0 1 = cc c.to in absurd (omega arith)) in
-      let b = and_true _ _ k in
+      let b = and_parts _ _ k in
       (limit_held bytes c.from, b.0, b.1)
 
 -- ── the first nine bits ──

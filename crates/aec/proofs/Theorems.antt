@@ -13,7 +13,8 @@ use Rattle.answers.specs.Answers.{Carried, missing, Outcome, done, refused, TOO_
 use Rattle.answers.specs.Limits.{longest_payload}
 use Rattle.answers.specs.Missing.{payload_out, SaysMissing, says_done, says_none, says_out, missing_in}
 use Rattle.bits.specs.Bits.{payload, read_at, read_or}
-use Rattle.bits.proofs.TestLaws.{by_test, and_true}
+use Rattle.std.proofs.lemmas.Bool.{and_parts}
+use Rattle.bits.proofs.TestLaws.{by_test}
 use Rattle.bits.proofs.BitLaws.{all_payload, leading}
 use Rattle.bits.proofs.Main.{missing_exactly}
 use Rattle.bits.proofs.ReadLaws.{read_there}
@@ -100,7 +101,7 @@ module _ (bytes : List ℕ) (count : ℕ) (x : State) where
   decode_pair_good a b r e =
       let f = then_done (refused_first bytes count x (good_context a && good_context b)) _ r e in
       let s = then_done (step_of (payload bytes count) x (pair_of a b)) _ r f.to in
-      let good = and_true _ _ (first_held bytes count x (good_context a && good_context b) f.from).2 in
+      let good = and_parts _ _ (first_held bytes count x (good_context a && good_context b) f.from).2 in
       let p = pair_predicts a b (context_ranges a good.0) (context_ranges b good.1) in
       let is : ◌≡◌ {A = ℕ × State × Context × Context} (s.value.0, s.value.1, update_of a s.value.0, update_of b s.value.0) r = cc s.to in
       subst (λ r. (Leads bytes count x r.0 r.1) × (good_context r.2 ≡ true) × (good_context r.3 ≡ true)) is

@@ -1,4 +1,5 @@
 -- The laws of tests: a case split that keeps its equation, what holds of a choice, and a rule proved by one computed test.
+use Rattle.std.proofs.lemmas.Bool.{and_parts}
 use Prim.Native.Nat.{ℕ, zero, suc, ◌<◌}
 use mathlib.Core.Path.{◌≡◌, refl, sym, ap, ◌∙◌}
 use mathlib.Core.Bool.{Bool, true, false, cond, ◌&&◌, beq, false≢true}
@@ -23,10 +24,6 @@ chosen P false a b h k = k refl
 pub contrary : {P : Type 0} (t : Bool) → t ≡ true → t ≡ false → P
 contrary t e f = absurd (false≢true (sym f ∙ e))
 
-pub and_true : (a b : Bool) → a && b ≡ true → (a ≡ true) × (b ≡ true)
-and_true true b e = (refl, e)
-and_true false b e = absurd (false≢true e)
-
 pub beq_true : (a b : Bool) → beq a b ≡ true → a ≡ b
 beq_true true true e = refl
 beq_true true false e = sym e
@@ -41,7 +38,7 @@ all_below (suc n) p = p n && all_below n p
 pub at_each : (n : ℕ) (p : ℕ → Bool) → all_below n p ≡ true → (k : ℕ) → k < n → p k ≡ true
 at_each zero p t k h = absurd (omega arith)
 at_each (suc n) p t k h =
-    let (here, rest) = and_true (p n) (all_below n p) t in
+    let (here, rest) = and_parts (p n) (all_below n p) t in
     let r = at_each n p rest k in
     by_test (eqb k n)
     (λ e. ap p (eqb-true k n e) ∙ here)

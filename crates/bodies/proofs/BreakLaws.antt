@@ -14,7 +14,8 @@ use lib.ListN.{length}
 use Rattle.answers.proofs.ResultLaws.{not_err}
 use Rattle.answers.specs.Answers.{Carried, refused, SHORT, VALUE}
 use Rattle.bits.specs.Bits.{bits_of, bit_at, read_on, read_at}
-use Rattle.bits.proofs.TestLaws.{by_test, and_true}
+use Rattle.std.proofs.lemmas.Bool.{and_parts}
+use Rattle.bits.proofs.TestLaws.{by_test}
 use Rattle.layout.specs.Layouts.{fields}
 use Rattle.bodies.specs.Records.{header_record, plain_record, coloured_record, copyright_record}
 use Rattle.layout.specs.Obeys.{Fits}
@@ -98,7 +99,7 @@ short_iff body = (from_test, to_test)
     from_test e =
         by_test (short Display body)
         (λ t. inl (ltb-true _ _ t))
-        (λ f. let h = and_true (is_one (bit_at (bits_of body) 8)) (short Coloured body) (rw f at e) in inr (one_is _ h.0, ltb-true _ _ h.1))
+        (λ f. let h = and_parts (is_one (bit_at (bits_of body) 8)) (short Coloured body) (rw f at e) in inr (one_is _ h.0, ltb-true _ _ h.1))
 
     to_test : ShortDisplay body → short Display body || (is_one (bit_at (bits_of body) 8) && short Coloured body) ≡ true
     to_test (inl l) = rw (lt-ltb _ _ l)

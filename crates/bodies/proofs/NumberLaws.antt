@@ -12,7 +12,8 @@ use lib.ListN.{length, take, drop, take-append-drop}
 use lib.Seq.{take-length, take_at}
 use Rattle.bits.specs.Bits.{bits_in, bits_of, payload, read_on, read_at}
 use Rattle.answers.proofs.ResultLaws.{ok_same}
-use Rattle.bits.proofs.TestLaws.{by_test, contrary, and_true}
+use Rattle.std.proofs.lemmas.Bool.{and_parts}
+use Rattle.bits.proofs.TestLaws.{by_test, contrary}
 use Rattle.bits.proofs.BitLaws.{length_in}
 use Rattle.bits.proofs.Main.{read_exactly}
 use Rattle.layout.specs.Reader.{Reading, read_value}
@@ -27,7 +28,7 @@ starts_take : (xs l : List ℕ) → starts_with xs l ≡ true → take (length x
 starts_take [] l e = refl
 starts_take (x ∷ xs) [] e = let z : ◌≡◌ {A = ℕ} 0 1 = cc in absurd (omega arith)
 starts_take (x ∷ xs) (y ∷ l) e =
-    let (here, rest) = and_true (eqb x y) (starts_with xs l) e in
+    let (here, rest) = and_parts (eqb x y) (starts_with xs l) e in
     rw (eqb-true x y here, starts_take xs l rest)
 
 take_starts : (xs l : List ℕ) → take (length xs) l ≡ xs → starts_with xs l ≡ true
@@ -130,7 +131,7 @@ opaque_read_lem Picture body = rw (numbered_read body 4 (omega arith)) (after_pi
 
 opaque_number_lem : (scope : Scope) (n : ℕ) → (opaque_number scope n ≡ true) ↔ ((n ≢ 4) × (scope ≡ Head → n ≢ 2))
 opaque_number_lem Head n = (
-  (λ e. let (four, two) = and_true (not (eqb n 4)) (not (eqb n 2)) e in (eqb-false n 4 (not-true _ four), λ p. eqb-false n 2 (not-true _ two))),
+  (λ e. let (four, two) = and_parts (not (eqb n 4)) (not (eqb n 2)) e in (eqb-false n 4 (not-true _ four), λ p. eqb-false n 2 (not-true _ two))),
   λ h. rw (ne_eqb n 4 h.0, ne_eqb n 2 (h.1 refl)),
 )
 opaque_number_lem Picture n = (

@@ -5,7 +5,8 @@ use mathlib.Core.Bool.{Bool, true, false}
 use native.Mathlib.Omega.{arith}
 use borrow.Author.Tests.{le-leb, lt-leb, leb-true, leb-false}
 use lib.Dec.{leb, eqb}
-use Rattle.bits.proofs.TestLaws.{chosen, and_true}
+use Rattle.std.proofs.lemmas.Bool.{and_parts}
+use Rattle.bits.proofs.TestLaws.{chosen}
 use Rattle.rates.specs.Rates.{rate_of, gain_of, next_lg}
 use Rattle.rates.proofs.RateLaws.{rate_within, gain_within, next_lg_within}
 use Rattle.contexts.specs.Contexts.{good_context, fresh_context, next_cycno, fold_of, update_of, updated_of}
@@ -22,9 +23,9 @@ pub record ContextRanges (c : Context) : Type 0 where
 pub context_ranges : (c : Context) → good_context c ≡ true → ContextRanges c
 unfolding good_context
 context_ranges c e =
-    let a = and_true _ _ e in
-    let b = and_true _ _ a.0 in
-    let d = and_true _ _ b.0 in
+    let a = and_parts _ _ e in
+    let b = and_parts _ _ a.0 in
+    let d = and_parts _ _ b.0 in
     record { mps = leb-true _ _ d.0; low = leb-true _ _ d.1; high = leb-true _ _ b.1; cycno = leb-true _ _ a.1 }
 
 pub ranges_context : (c : Context) → ContextRanges c → true ≡ good_context c

@@ -8,7 +8,7 @@ use lib.Dec.{eqb}
 use borrow.Author.Tests.{eqb-true}
 use native.Mathlib.Omega.{arith}
 use Rattle.bits.specs.Lists.{All}
-use Rattle.bits.proofs.TestLaws.{and_true}
+use Rattle.std.proofs.lemmas.Bool.{and_parts}
 use Rattle.grammar.specs.Lists.{concat_map}
 use Rattle.grammar.specs.Grammar.{StreamUnit, bytes, Alone}
 use Rattle.startcode.specs.Prefix.{begins}
@@ -37,8 +37,8 @@ begins_true [] e = ([], cc)
 begins_true (a ∷ []) e = ([], cc)
 begins_true (a ∷ b ∷ []) e = ([], cc)
 begins_true (a ∷ b ∷ c ∷ r) e =
-    let p = and_true (eqb a 0) (eqb b 0 && eqb c 1) e in
-    let q = and_true (eqb b 0) (eqb c 1) p.1 in
+    let p = and_parts (eqb a 0) (eqb b 0 && eqb c 1) e in
+    let q = and_parts (eqb b 0) (eqb c 1) p.1 in
     let x = eqb-true a 0 p.0 in let y = eqb-true b 0 q.0 in let z = eqb-true c 1 q.1 in
     (r, cc)
 

@@ -9,7 +9,8 @@ use borrow.Author.Tests.{eqb-true, eq-eqb, leb-true}
 use lib.Dec.{leb, eqb}
 use Rattle.answers.specs.Answers.{Outcome, done, refused, UNKNOWN}
 use Rattle.answers.proofs.OutcomeLaws.{undone, done_one, not_done}
-use Rattle.bits.proofs.TestLaws.{by_test, and_true}
+use Rattle.std.proofs.lemmas.Bool.{and_parts}
+use Rattle.bits.proofs.TestLaws.{by_test}
 use Rattle.startcode.specs.Kinds.{Codes, kind_in, kinds, kind_of}
 use Rattle.startcode.specs.declared.Kind.{Kind}
 use Rattle.startcode.specs.declared.Kind.TheVariants as kind
@@ -68,12 +69,12 @@ only k byte (c ∷ cs) = cond (same_kind c.kind k) (eqb c.first byte && eqb c.la
 only_code : (cs : List Codes) (k : Kind) (byte c : ℕ) → only k byte cs ≡ true → kind_in cs c ≡ done k → c ≡ byte
 only_code [] k byte c t e = not_done e
 only_code (x ∷ cs) k byte c t e =
-    let p = and_true (cond (same_kind x.kind k) (eqb x.first byte && eqb x.last byte) true) (only k byte cs) t in
+    let p = and_parts (cond (same_kind x.kind k) (eqb x.first byte && eqb x.last byte) true) (only k byte cs) t in
     by_test (leb x.first c && leb c x.last)
     (λ i.
-    let q = and_true (leb x.first c) (leb c x.last) i in
+    let q = and_parts (leb x.first c) (leb c x.last) i in
     let s = true_same x.kind k (done_one (rw i at e)) in
-    let f = and_true (eqb x.first byte) (eqb x.last byte) (rw s at p.0) in
+    let f = and_parts (eqb x.first byte) (eqb x.last byte) (rw s at p.0) in
     let l = leb-true x.first c q.0 in let m = leb-true c x.last q.1 in
     let a = eqb-true x.first byte f.0 in let b = eqb-true x.last byte f.1 in
     omega arith)

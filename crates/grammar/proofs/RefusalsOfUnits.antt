@@ -12,7 +12,8 @@ use Rattle.answers.specs.Answers.{done}
 use Rattle.answers.proofs.ResultLaws.{not_err, ok_same}
 use Rattle.bits.specs.Lists.{All}
 use Rattle.bits.proofs.ListLaws.{absent, all_append}
-use Rattle.bits.proofs.TestLaws.{by_test, contrary, and_true}
+use Rattle.std.proofs.lemmas.Bool.{and_parts}
+use Rattle.bits.proofs.TestLaws.{by_test, contrary}
 use Rattle.startcode.specs.Kinds.{kind_of}
 use Rattle.startcode.specs.declared.Kind.{Kind}
 use Rattle.startcode.specs.declared.Kind.TheVariants as kind
@@ -95,10 +96,10 @@ module _ (us : List StreamUnit) (rule : SliceRule) (least : ℕ) (ruled : Ruled 
       (λ z. inl (zero_nonzero u.body z, (same_stop (reason.Body fault.Short) why).0 (rw z at e)))
       (λ nz.
       by_test (rule.tested && ltb u.code least)
-      (λ t. let a = and_true _ _ t in inr (bad_slice (false_nonzero u.body nz) a.0 (order ((bound u).1 (ltb-true _ _ a.1)) ((same_stop reason.SliceOrder why).0 (rw (nz, t) at e)))))
+      (λ t. let a = and_parts _ _ t in inr (bad_slice (false_nonzero u.body nz) a.0 (order ((bound u).1 (ltb-true _ _ a.1)) ((same_stop reason.SliceOrder why).0 (rw (nz, t) at e)))))
       (λ f.
       by_test (rule.tested && leb rule.rows u.code)
-      (λ t. let a = and_true _ _ t in inr (bad_slice (false_nonzero u.body nz) a.0 (row (in_order a.0 f) (leb-true _ _ a.1) ((same_stop reason.SliceRow why).0 (rw (nz, f, t) at e)))))
+      (λ t. let a = and_parts _ _ t in inr (bad_slice (false_nonzero u.body nz) a.0 (row (in_order a.0 f) (leb-true _ _ a.1) ((same_stop reason.SliceRow why).0 (rw (nz, f, t) at e)))))
       (λ g. not_err (rw (nz, f, g) at e))))
     where
       in_order : rule.tested ≡ true → rule.tested && ltb u.code least ≡ false → ¬ NotGreater us u

@@ -12,7 +12,8 @@ use lib.Dec.{eqb}
 use lib.ListN.{length, length-append, length-map, replicate}
 use Rattle.answers.specs.Answers.{Outcome, done, refused}
 use Rattle.answers.proofs.OutcomeLaws.{not_done}
-use Rattle.bits.proofs.TestLaws.{by_test, contrary, and_true}
+use Rattle.std.proofs.lemmas.Bool.{and_parts}
+use Rattle.bits.proofs.TestLaws.{by_test, contrary}
 use Rattle.startcode.specs.Kinds.{kind_of}
 use Rattle.startcode.specs.declared.Kind.{Kind}
 use Rattle.startcode.specs.declared.Kind.TheVariants as kind
@@ -70,7 +71,7 @@ never n body l h = by_test (numbered n body) (λ t. absurd (h (record { small = 
 opaque_iff : (p : Scope) (body : List ℕ) → (is_opaque p body ≡ true) ↔ Opaque p body
 unfolding is_opaque
 opaque_iff Head body = (
-  (λ t. let (a, b) = and_true (not (numbered 4 body)) (not (numbered 2 body)) t in
+  (λ t. let (a, b) = and_parts (not (numbered 4 body)) (not (numbered 2 body)) t in
       ((λ h. contrary (numbered 4 body) h.bits (not-true _ a)), λ e h. contrary (numbered 2 body) h.bits (not-true _ b))),
   λ o. rw (never 4 body (omega arith) o.0, never 2 body (omega arith) (o.1 refl)) refl,
 )

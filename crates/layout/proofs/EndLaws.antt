@@ -15,7 +15,7 @@ use Rattle.bits.specs.Lists.{All}
 use Rattle.answers.proofs.ResultLaws.{ok_same}
 use Rattle.bits.specs.Bits.{bits_in, bits_of, read_on}
 use Rattle.bits.proofs.ListLaws.{all_drop}
-use Rattle.bits.proofs.TestLaws.{and_true}
+use Rattle.std.proofs.lemmas.Bool.{and_parts}
 use Rattle.bits.proofs.BitLaws.{length_in, reads_written}
 use Rattle.layout.specs.Reader.{all_zero, stuffing}
 
@@ -39,7 +39,7 @@ stuffing_append x l m = ap (λ (t : Bool). eqb x 1 && t) (zero_append l m) ∙ s
 pub zeros_are : (l : List ℕ) → all_zero l ≡ true → l ≡ replicate (length l) 0
 zeros_are [] e = refl
 zeros_are (b ∷ l) e =
-    let h = and_true (eqb b 0) (all_zero l) e in
+    let h = and_parts (eqb b 0) (all_zero l) e in
     rw (eqb-true b 0 h.0) (ap (λ (t : List ℕ). 0 ∷ t) (zeros_are l h.1))
 
 pub are_zeros : (n : ℕ) → all_zero (replicate n 0) ≡ true
@@ -68,7 +68,7 @@ unfolding bits_in
 stuffed_byte x h =
     same (stuffing (bits_in 8 x)) (eqb x 128)
     (λ e.
-    let p = and_true (eqb (x / 2 ^ 7 % 2) 1) (all_zero (bits_in 7 x)) e in
+    let p = and_parts (eqb (x / 2 ^ 7 % 2) 1) (all_zero (bits_in 7 x)) e in
     let o = eqb-true (x / 2 ^ 7 % 2) 1 p.0 in
     let z = zeros_are (bits_in 7 x) p.1 in
     let b : bits_in 8 x ≡ 1 ∷ replicate 7 0 = ap (λ (b : ℕ). b ∷ bits_in 7 x) o ∙ ap (λ (l : List ℕ). 1 ∷ l) z in

@@ -14,7 +14,8 @@ use lib.Seq.{take_all, take_at, drop_at, take-add, take-take, drop-drop}
 use Rattle.answers.proofs.ResultLaws.{not_ok, ok_same, bind_ok}
 use Rattle.bits.specs.Bits.{bits_in, bits_of, payload, read_at}
 use Rattle.bits.proofs.ListLaws.{drop_take}
-use Rattle.bits.proofs.TestLaws.{by_test, and_true}
+use Rattle.std.proofs.lemmas.Bool.{and_parts}
+use Rattle.bits.proofs.TestLaws.{by_test}
 use Rattle.bits.proofs.BitLaws.{length_in, length_bits}
 use Rattle.bits.proofs.Main.{read_exactly}
 use Rattle.layout.specs.Layouts.{width_of, rule_of, Allowed, Keeps, fields, bit_count}
@@ -117,11 +118,11 @@ unfolding allows
 allowed_if (Only one) v e = eqb-true v one e
 allowed_if (But one) v e = eqb-false v one (not-true _ e)
 allowed_if (Within least greatest) v e =
-    let h = and_true (leb least v) (leb v greatest) e in
+    let h = and_parts (leb least v) (leb v greatest) e in
     (leb-true _ _ h.0, leb-true _ _ h.1)
 allowed_if (WithinBut least greatest one) v e =
-    let g = and_true (leb least v && leb v greatest) (not (eqb v one)) e in
-    let h = and_true (leb least v) (leb v greatest) g.0 in
+    let g = and_parts (leb least v && leb v greatest) (not (eqb v one)) e in
+    let h = and_parts (leb least v) (leb v greatest) g.0 in
     (leb-true _ _ h.0, leb-true _ _ h.1, eqb-false v one (not-true _ g.1))
 
 pub if_allowed : (r : Values) (v : ℕ) → Allowed r v → allows r v ≡ true
@@ -200,7 +201,7 @@ fine_cross Copyright vs h = ap owned_by h.1 ∙ if_owned h.0 h.2
 pub stuffing_is : (l : List ℕ) → stuffing l ≡ true → (n : ℕ) × (l ≡ 1 ∷ replicate n 0)
 stuffing_is [] e = let z : ◌≡◌ {A = ℕ} 0 1 = cc in absurd (omega arith)
 stuffing_is (b ∷ l) e =
-    let h = and_true (eqb b 1) (all_zero l) e in
+    let h = and_parts (eqb b 1) (all_zero l) e in
     (length l, ap (λ (x : ℕ). x ∷ l) (eqb-true b 1 h.0) ∙ ap (λ (t : List ℕ). 1 ∷ t) (zeros_are l h.1))
 
 pub is_stuffing : (l : List ℕ) (n : ℕ) → l ≡ 1 ∷ replicate n 0 → stuffing l ≡ true

@@ -12,7 +12,7 @@ use borrow.Author.Tests.{leb-true, eqb-true}
 use lib.Dec.{leb, eqb}
 use lib.ListN.{length}
 use Rattle.bits.specs.Lists.{All}
-use Rattle.bits.proofs.TestLaws.{and_true}
+use Rattle.std.proofs.lemmas.Bool.{and_parts}
 use Rattle.rates.specs.Rates.{next_lg, w_of, rates}
 use Rattle.rates.specs.Tables.{next_lgs, table_of}
 use Rattle.rates.specs.Claims.{Rule}
@@ -75,14 +75,14 @@ Near x y = (x ≤ suc y) × (y ≤ suc x)
 entry_obeys_lem : (w k x : ℕ) (xs : List ℕ) → entry_obeys w k x xs ≡ true → (Obeys w k x) × (near x xs ≡ true)
 unfolding entry_obeys
 entry_obeys_lem w k x xs t =
-    let a = and_true _ _ t in
-    let b = and_true _ _ a.0 in
-    let d = and_true _ _ b.0 in
+    let a = and_parts _ _ t in
+    let b = and_parts _ _ a.0 in
+    let d = and_parts _ _ b.0 in
     (record { formula = eqb-true _ _ d.0; bounded = leb-true _ _ d.1; least = leb-true _ _ b.1 }, a.1)
 
 obeys_both : (w k x : ℕ) (xs : List ℕ) → obeys w k (x ∷ xs) ≡ true → (entry_obeys w k x xs ≡ true) × (obeys w (suc k) xs ≡ true)
 unfolding obeys
-obeys_both w k x xs t = and_true (entry_obeys w k x xs) (obeys w (suc k) xs) t
+obeys_both w k x xs t = and_parts (entry_obeys w k x xs) (obeys w (suc k) xs) t
 
 obeys_at : (w i : ℕ) (xs : List ℕ) → obeys w i xs ≡ true → (k x : ℕ) → slice_get xs k ≡ Some x → Obeys w (i + k) x
 obeys_at w i [] t k x e = absurd (none-some x e)
@@ -100,7 +100,7 @@ unfolding near Near
 near_at w i [] t k x y e f = absurd (none-some x e)
 near_at w i (a ∷ []) t zero x y e f = absurd (none-some y f)
 near_at w i (a ∷ b ∷ cs) t zero x y e f =
-    let h = and_true _ _ (entry_obeys_lem w i a (b ∷ cs) (obeys_both w i a (b ∷ cs) t).0).1 in
+    let h = and_parts _ _ (entry_obeys_lem w i a (b ∷ cs) (obeys_both w i a (b ∷ cs) t).0).1 in
     let same : a ≡ x = cc e in
     let next : b ≡ y = cc f in
     rw (← same, ← next) (leb-true _ _ h.0, leb-true _ _ h.1)
@@ -109,7 +109,7 @@ near_at w i (a ∷ bs) t (suc k) x y e f = near_at w (suc i) bs (obeys_both w i 
 table_rule : (r : Rate) → table_obeys r ≡ true → Rule (w_of r) (table_of r)
 unfolding table_obeys Near
 table_rule r t =
-    let a = and_true _ _ t in
+    let a = and_parts _ _ t in
     record {
       whole = eqb-true _ _ a.0;
       formula = λ k x e. (obeys_at (w_of r) 0 (table_of r) a.1 k x e).formula ∙ ap (next_lg (w_of r)) (omega arith);

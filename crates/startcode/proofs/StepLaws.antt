@@ -9,7 +9,8 @@ use lib.ListN.{length, get_or, take, drop, length-take, length-drop, take-append
 use borrow.Author.Tests.{eq-eqb, ne_eqb, eqb-true, leb-true, leb-false}
 use Rattle.bits.specs.Lists.{All}
 use Rattle.bits.proofs.ListLaws.{all_take, at_head}
-use Rattle.bits.proofs.TestLaws.{by_test, and_true, contrary}
+use Rattle.std.proofs.lemmas.Bool.{and_parts}
+use Rattle.bits.proofs.TestLaws.{by_test, contrary}
 use Rattle.startcode.specs.Prefix.{begins, next_prefix, steps}
 use Rattle.startcode.specs.Inside.{Found, Leads, Runs}
 use Rattle.startcode.proofs.PrefixLaws.{begins_at, begins_short, search_start, search_hit, search_step, search_end}
@@ -68,8 +69,8 @@ pub record Stands (s : List ℕ) (i : ℕ) : Type 0 where
 
 stands_in : (s : List ℕ) (i : ℕ) → begins (drop i s) ≡ true → i + 2 < length s → Stands s i
 stands_in s i e h =
-    let p = and_true _ _ (sym (begins_at s i h) ∙ e) in
-    let q = and_true _ _ p.1 in
+    let p = and_parts _ _ (sym (begins_at s i h) ∙ e) in
+    let q = and_parts _ _ p.1 in
     record { first = eqb-true _ _ p.0; second = eqb-true _ _ q.0; third = eqb-true _ _ q.1 }
 
 stands : (s : List ℕ) (i : ℕ) → begins (drop i s) ≡ true → Stands s i

@@ -1,13 +1,13 @@
 -- The prediction of two contexts, by the tests of the definition.
 use native.Mathlib.Omega.{arith}
-use Rattle.bits.proofs.TestLaws.{and_true}
+use Rattle.std.proofs.lemmas.Bool.{and_parts}
 use Rattle.contexts.proofs.ContextLaws.{ContextRanges, context_ranges}
 use Rattle.aec.proofs.PairLaws.{pair_same, pair_first, pair_second}
 use Rattle.aec.proofs.PairContexts.prediction.Goals as goal
 use Rattle.aec.proofs.PairContexts.prediction.Goals.{Start}
 
 ranges : (e : Start) → (ContextRanges e.args.self.first) × (ContextRanges e.args.self.second)
-ranges e = let r = and_true _ _ e.requires in (context_ranges _ r.0, context_ranges _ r.1)
+ranges e = let r = and_parts _ _ e.requires in (context_ranges _ r.0, context_ranges _ r.1)
 
 pub overflow_add-sum : goal.overflow_add-sum
 overflow_add-sum c = let r = ranges (goal.at.overflow_add-sum c).Start in omega arith
