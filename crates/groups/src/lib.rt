@@ -47,7 +47,7 @@ struct UnitHere<'a> {
     body: &'a [u8],
 }
 
-// The units of a stream from an offset on.
+// The units of a stream from an offset on; a contract sees their list.
 #[derive(Drop)]
 struct Units<'a> {
     stream: &'a [u8],
@@ -153,8 +153,8 @@ fn group_here(body: &[u8], rest: Units<'_>) -> Result<Group, GroupError>
     }
 }
 
-// Group g of these units. Of the groups before it nothing is read but the codes. Not a for: what the loop leaves of the units goes on the
-// head of the group that it finds.
+// Group g of these units. Of the groups before it nothing is read but the codes. Not a for: that would take the units, and those left at
+// the group's header are its head.
 #[tactic(auto, unfolding(crate::specs::Reader::group_in))]
 fn group_in(mut units: Units<'_>, g: usize) -> Result<Group, GroupError>
     ensures { group_says result ≡ group_in g units.entry }
