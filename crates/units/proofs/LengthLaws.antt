@@ -3,7 +3,7 @@ use Prim.Native.Nat.{ℕ, suc, ◌≤◌, ◌<◌, ◌-◌}
 use mathlib.Core.Path.{◌≡◌, refl, sym, ◌∙◌, ap}
 use mathlib.Core.List.{List, [], ◌∷◌, ◌++◌}
 use lib.ListN.{length, get_or, take}
-use lib.Seq.{take-suc}
+use lib.Seq.{take-suc, take-length}
 use borrow.Author.Tests.{ne_eqb}
 use native.Mathlib.Omega.{arith}
 use Rattle.grammar.specs.Rows.{kept, trimmed}
@@ -30,3 +30,6 @@ module _ (b : List ℕ) (n : ℕ) (h : 0 < n) (k : n ≤ length b) where
 
   pub trim_end : (get_or b (n - 1) 0 ≡ 0 → ⊥) → trimmed (take n b) ≡ take n b
   trim_end z = ap trimmed last_is ∙ trim_not (take (n - 1) b) (get_or b (n - 1) 0) z ∙ sym last_is
+
+pub trim_all : (b : List ℕ) → trimmed b ≡ trimmed (take (length b) b)
+trim_all b = ap trimmed (sym (take-length b))

@@ -1,26 +1,22 @@
--- The bytes before the place are trimmed to what all are.
+-- The bytes that are left are trimmed to what all are.
 use Prim.Native.Nat.{ℕ}
 use mathlib.Core.Path.{◌≡◌, sym, ap, ◌∙◌}
 use native.Mathlib.Omega.{arith}
+use borrow.Author.Rules.{rules}
 use lib.ListN.{length, take}
-use lib.Seq.{take-length, length-take-le}
+use lib.Seq.{length-take-le}
 use Rattle.grammar.specs.Rows.{trimmed}
-use Rattle.units.proofs.LengthLaws.{trim_more, trim_end}
+use Rattle.units.proofs.LengthLaws.{trim_more, trim_end, trim_all}
 use Rattle.units.proofs.trimmed_length.Goals as goal
 
 pub loop-n-init : goal.loop-n-init
-loop-n-init c = ap trimmed (sym (take-length c.args.body.now))
+loop-n-init c = (search rules, ap length (trim_all c.args.body.now))
 
 pub returns-then-body-n-ne0 : goal.returns-then-body-n-ne0
-returns-then-body-n-ne0 c =
-    let b = c.args.body.now in
-    let n = c.loop-n.n in
-    let e = c.loop-n.invariant ∙ trim_end b n (omega arith) c.loop-n.auto.n c.if-body-n-ne0.true in
-    let l : length (trimmed b) ≡ n = ap length e ∙ length-take-le n b c.loop-n.auto.n in
-    omega arith
+returns-then-body-n-ne0 c = let b = c.args.body.now in sym (c.loop-n.invariant.1 ∙ ap length (trim_end b c.loop-n.n (omega arith) c.loop-n.invariant.0 c.if-body-n-ne0.true) ∙ length-take-le c.loop-n.n b c.loop-n.invariant.0)
 
 pub loop-n-preserved : goal.loop-n-preserved
-loop-n-preserved c = let b = c.args.body.now in c.loop-n.invariant ∙ trim_more b c.loop-n.n (omega arith) c.loop-n.auto.n c.if-body-n-ne0.false
+loop-n-preserved c = let b = c.args.body.now in (search rules, c.loop-n.invariant.1 ∙ ap length (trim_more b c.loop-n.n (omega arith) c.loop-n.invariant.0 c.if-body-n-ne0.false))
 
 pub returns : goal.returns
-returns c = let b = c.args.body.now in let e : c.loop-n.n ≡ 0 = omega arith in sym (ap length (c.loop-n.invariant ∙ ap (λ (n : ℕ). trimmed (take n b)) e))
+returns c = let b = c.args.body.now in let e : c.loop-n.n ≡ 0 = omega arith in sym (c.loop-n.invariant.1 ∙ ap (λ (n : ℕ). length (trimmed (take n b))) e)
