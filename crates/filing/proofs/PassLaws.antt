@@ -1,5 +1,5 @@
 -- The laws of the two passes.
-use Rattle.std.proofs.Common.{Result, Ok, Err, Option, Some, None}
+use Rattle.std.proofs.Common.{Result, Ok, Err}
 use Prim.Native.Nat.{ℕ, zero, suc, ◌≤◌, ◌<◌, ◌+◌, ◌-◌, ◌*◌}
 use mathlib.Core.Path.{◌≡◌, refl, sym, ◌∙◌, ap, subst}
 use mathlib.Core.Logic.{inl, inr}
@@ -24,19 +24,16 @@ use Rattle.grammar.specs.Rows.{Placed, placed, row_length, rows_from, words}
 use Rattle.grammar.specs.Reader.{final, Stopped, Walk, stop_at, add_unit, walk_of_any, said}
 use Rattle.grammar.specs.declared.State.{State}
 use Rattle.grammar.specs.declared.State.TheVariants.{Start}
-use Rattle.grammar.specs.declared.Reason.{Reason}
 use Rattle.grammar.specs.declared.Reason.TheVariants.{NoCode, Unended}
 use Rattle.grammar.proofs.Division.{Goes, sequence, user, extension, display, first_picture, extra, first_slice, next_slice, next_picture, next_sequence, end as sequence-end, edit, end_edit}
 use Rattle.grammar.proofs.RowLaws.{rows_length}
 use Rattle.grammar.proofs.StepLaws.{step_sound}
 use Rattle.grammar.proofs.WalkLaws.{left, left_end, unit_between}
-use Rattle.units.proofs.UnitLaws.{Advanced, Left, what_is_left, stands}
-use Rattle.units.specs.Reader.{unit_at}
-use Rattle.units.specs.declared.NextUnit.{NextUnit}
+use Rattle.units.proofs.UnitLaws.{Advanced, stands}
 use Rattle.filing.specs.Filing.{words_after}
 use Rattle.filing.specs.declared.Refusal.{Refusal}
 use Rattle.filing.proofs.ScopeLaws.{extension_scope, scope_same}
-use Rattle.filing.specs.Inside.{unit_or_refusal, offset_of, short_span, Spans, Kept, Passed, scope_after, Writable}
+use Rattle.filing.specs.Inside.{offset_of, short_span, Spans, Kept, Passed, scope_after, Writable}
 
 pub any_left : (s : List ℕ) → begins s ≡ true → walk_of_any s ≡ left s Start 0
 unfolding walk_of_any left
@@ -150,19 +147,6 @@ no_code s f = rw f
 -- what the first pass found wrong
 pub passed_refused : (s spans : List ℕ) (r : Refusal) → stop_at r.reason r.offset ≡ map_ok length (walk_of_any s) → Passed s spans (Err r)
 passed_refused s spans r e = record { answer = e; kept = tt }
-
--- what the unit at an offset leaves of the walk, or why the walk stops there
-abbrev pub LeftHere : List ℕ → State → ℕ → Result NextUnit Refusal → Type 0
-LeftHere s q at (Ok u) = Advanced s q at u.state u.end u.length
-LeftHere s q at (Err r) = left s q at ≡ stop_at r.reason r.offset
-
-pub what_is_here : (s : List ℕ) (q : State) (at : ℕ) → begins (drop at s) ≡ true → LeftHere s q at (unit_or_refusal (unit_at s q at) at)
-what_is_here s q at b = by_unit (unit_at s q at) (what_is_left s q at b)
-  where
-    by_unit : (u : Option (Result NextUnit Reason)) → Left s q at u → LeftHere s q at (unit_or_refusal u at)
-    by_unit (Some (Ok u)) l = l
-    by_unit (Some (Err why)) l = l
-    by_unit None l = absurd l
 
 -- ── scopes ──
 

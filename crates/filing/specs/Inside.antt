@@ -1,5 +1,5 @@
 -- What the private functions promise one another; no part of document 01.
-use Rattle.std.specs.Prelude.{ℕ, zero, suc, ◌+◌, ◌*◌, ◌≤◌, ◌<◌, ◌≡◌, List, cond, ltb, length, get_or, Result, Ok, Err, Option, Some, None}
+use Rattle.std.specs.Prelude.{ℕ, zero, suc, ◌+◌, ◌*◌, ◌≤◌, ◌<◌, ◌≡◌, List, cond, ltb, length, get_or, Result, Ok, Err}
 use Rattle.answers.specs.Answers.{Outcome, done, refused}
 use Rattle.answers.specs.Limits.{longest_stream}
 use Rattle.answers.specs.Results.{map_ok}
@@ -10,9 +10,6 @@ use Rattle.bodies.specs.declared.Scope.{Scope}
 use Rattle.bodies.specs.declared.Scope.TheVariants as scope
 use Rattle.grammar.specs.Rows.{Placed}
 use Rattle.grammar.specs.Reader.{Stopped, stop_at, walk_of_any, filing_into}
-use Rattle.grammar.specs.declared.Reason.{Reason}
-use Rattle.grammar.specs.declared.Reason.TheVariants as reason
-use Rattle.units.specs.declared.NextUnit.{NextUnit}
 use Rattle.filing.specs.Filing.{filing_says, words_after, FiledByReading}
 use Rattle.filing.specs.Reader.{filed}
 use Rattle.filing.specs.declared.Refusal.{Refusal}
@@ -22,12 +19,6 @@ use Rattle.filing.specs.declared.Totals.{Totals}
 abbrev pub checked_gives : Result ℕ Refusal → Result ℕ Stopped
 checked_gives (Ok units) = Ok units
 checked_gives (Err r) = stop_at r.reason r.offset
-
--- the unit at an offset, or what the stream is refused for there: NO CODE where no unit begins
-abbrev pub unit_or_refusal : Option (Result NextUnit Reason) → ℕ → Result NextUnit Refusal
-unit_or_refusal (Some (Ok unit)) at = Ok unit
-unit_or_refusal (Some (Err why)) at = Err (record { reason = why; offset = at })
-unit_or_refusal None at = Err (record { reason = reason.NoCode; offset = at })
 
 -- the offset of each unit of a good stream, by the number of units before it
 abbrev pub offset_of : List ℕ → ℕ → ℕ

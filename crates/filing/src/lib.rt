@@ -8,15 +8,13 @@ ghost use Rattle.startcode.specs.Kinds.{kind_of};
 ghost use Rattle.startcode.specs.Prefix.{next_prefix};
 ghost use Rattle.grammar.specs.Rows.{rows_from};
 ghost use Rattle.grammar.specs.Reader.{final, said, walk_of_any, walk, filing_into};
-ghost use Rattle.units.specs.Reader.{unit_at};
 ghost use Rattle.filing.specs.Filing.{filing_says, words_after, FiledByReading};
 ghost use Rattle.filing.specs.Reader.{filed};
-ghost use Rattle.filing.specs.Inside.{short_span, unit_or_refusal, Spans, KeptBy, Passed, scope_after, Writable, Filed};
+ghost use Rattle.filing.specs.Inside.{short_span, Spans, KeptBy, Passed, scope_after, Writable, Filed};
 
 use bodies::Scope;
 use grammar::{Reason, State};
 use startcode::Kind;
-use units::NextUnit;
 
 // A refusal and its offset in the stream.
 #[derive(Clone, Copy, Debug, PartialEq, Eq)]
@@ -55,20 +53,6 @@ fn keep_span(spans: &mut [u16], i: usize, span: usize)
     }
 }
 
-// The unit at an offset; where none begins there, that is NO CODE.
-fn unit_here(stream: &[u8], state: State, at: usize) -> Result<NextUnit, Refusal>
-    ensures { result ≡ unit_or_refusal (unit_at stream.now state at) at }
-{
-    match units::unit_at(stream, state, at) {
-        Some(Ok(unit)) => Ok(unit),
-        Some(Err(reason)) => Err(Refusal { reason, offset: at }),
-        None => Err(Refusal {
-            reason: Reason::NoCode,
-            offset: at,
-        }),
-    }
-}
-
 // Each unit is checked, the units are counted, and the spans of the first are kept; no word for rows is touched.
 fn check_units(stream: &[u8], spans: &mut [u16]) -> Result<usize, Refusal>
     ensures { Passed stream.now spans.new result }
@@ -84,11 +68,22 @@ fn check_units(stream: &[u8], spans: &mut [u16]) -> Result<usize, Refusal>
     let mut units: usize = 0;
     // Not a for: how many units there are is found by going over them.
     while at < stream.len() {
-        let unit = unit_here(stream, state, at)?;
-        keep_span(spans, units, unit.end - at);
-        state = unit.state;
-        at = unit.end;
-        units += 1;
+        // Each refusal returns from here: as one Result of the unit with ?, the row's length, which this pass drops, was worked out.
+        match units::unit_at(stream, state, at) {
+            Some(Ok(unit)) => {
+                keep_span(spans, units, unit.end - at);
+                state = unit.state;
+                at = unit.end;
+                units += 1;
+            }
+            Some(Err(reason)) => return Err(Refusal { reason, offset: at }),
+            None => {
+                return Err(Refusal {
+                    reason: Reason::NoCode,
+                    offset: at,
+                });
+            }
+        }
     }
     if is_final(state) {
         return Ok(units);

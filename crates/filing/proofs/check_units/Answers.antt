@@ -1,14 +1,14 @@
 -- What is counted and what is left make the whole count.
-use Rattle.std.proofs.Common.{Result}
-use Rattle.std.proofs.lemmas.Result.{err_from_is_err_and}
+use Rattle.std.proofs.Common.{Option, Result, Some}
 use mathlib.Core.Path.{◌≡◌, refl, sym, ap, ◌∙◌, subst}
 use native.Mathlib.Omega.{arith}
 use lib.ListN.{length, length-set}
-use Rattle.filing.proofs.PassLaws.{checking_start, checking_next, end_good, end_unended, counted, no_code, passed_refused, LeftHere, what_is_here}
+use Rattle.filing.proofs.PassLaws.{checking_start, checking_next, end_good, end_unended, counted, no_code, passed_refused}
+use Rattle.units.proofs.UnitLaws.{Left, what_is_left}
+use Rattle.grammar.specs.declared.Reason.{Reason}
 use Rattle.units.specs.declared.NextUnit.{NextUnit}
-use Rattle.filing.specs.declared.Refusal.{Refusal}
 use Rattle.filing.proofs.check_units.Goals as goal
-use Rattle.filing.proofs.check_units.Goals.{After-unit_here}
+use Rattle.filing.proofs.check_units.Goals.{After-unit_at}
 
 pub returns-then-not-prefix_at : goal.returns-then-not-prefix_at
 returns-then-not-prefix_at c = passed_refused c.args.stream.now _ _ (no_code c.args.stream.now (sym c.prefix_at.ensures ∙ c.if-not-prefix_at.true))
@@ -16,33 +16,35 @@ returns-then-not-prefix_at c = passed_refused c.args.stream.now _ _ (no_code c.a
 pub loop-at-init : goal.loop-at-init
 loop-at-init c = let a = c.args in (checking_start a.stream.now a.spans.now (sym c.prefix_at.ensures ∙ c.if-not-prefix_at.false), refl)
 
--- what the unit that is here leaves
-left_here : (u : After-unit_here) {y : Result NextUnit Refusal} → u.unit_here.result ≡ y → LeftHere u.args.stream.now u.loop-at.state u.loop-at.at y
-left_here u e =
+-- what the unit that was read leaves
+what : (u : After-unit_at) {y : Option (Result NextUnit Reason)} → u.unit_at.result ≡ y → Left u.args.stream.now u.loop-at.state u.loop-at.at y
+what u e =
     let s = u.args.stream.now in
-    subst (LeftHere s u.loop-at.state u.loop-at.at) (sym u.unit_here.ensures ∙ e) (what_is_here s u.loop-at.state u.loop-at.at (u.loop-at.invariant.0.here u.loop-at-test.true))
+    subst (Left s u.loop-at.state u.loop-at.at) (sym u.unit_at.ensures ∙ e) (what_is_left s u.loop-at.state u.loop-at.at (u.loop-at.invariant.0.here u.loop-at-test.true))
 
-pub returns-in_err-unit : goal.returns-in_err-unit
-returns-in_err-unit c =
-    let p = err_from_is_err_and c.from_residual.result c.from_residual.ensures.1 in
-    let l = left_here (goal.at.returns-in_err-unit c).After-unit_here c.in_err-unit.was in
-    rw (p.1, p.2) (passed_refused c.args.stream.now _ _ (sym (c.loop-at.invariant.0.count ∙ ap (counted c.loop-at.units) l)))
+pub returns-in-Some-Err : goal.returns-in-Some-Err
+returns-in-Some-Err c =
+    let l = what (goal.at.returns-in-Some-Err c).After-unit_at (c.in-Some-Err.is ∙ ap Some c.in-Some-Err.field-0-is) in
+    passed_refused c.args.stream.now _ _ (sym (c.loop-at.invariant.0.count ∙ ap (counted c.loop-at.units) l))
+
+pub returns-in-None : goal.returns-in-None
+returns-in-None c = absurd (what (goal.at.returns-in-None c).After-unit_at c.in-None.is)
 
 pub overflow_sub-unit : goal.overflow_sub-unit
-overflow_sub-unit c = omega (arith, (left_here (goal.at.overflow_sub-unit c).After-unit_here c.in_ok-unit.was).forward)
+overflow_sub-unit c = omega (arith, (what (goal.at.overflow_sub-unit c).After-unit_at (c.in-Some-Ok.is ∙ ap Some c.in-Some-Ok.field-0-is)).forward)
 
 pub overflow_add-units : goal.overflow_add-units
 overflow_add-units c = omega (arith, c.loop-at.invariant.0.few, c.loop-at.invariant.0.inside)
 
 pub loop-at-smaller : goal.loop-at-smaller
 loop-at-smaller c =
-    let l = left_here (goal.at.loop-at-smaller c).After-unit_here c.in_ok-unit.was in
+    let l = what (goal.at.loop-at-smaller c).After-unit_at (c.in-Some-Ok.is ∙ ap Some c.in-Some-Ok.field-0-is) in
     omega (arith, l.forward, l.within)
 
 pub loop-at-preserved : goal.loop-at-preserved
 loop-at-preserved c =
     let r = c.keep_span.ensures in (
-      checking_next c.args.stream.now c.loop-at.spans c.loop-at.state c.loop-at.at c.loop-at.units _ _ _ _ c.loop-at.invariant.0 (left_here (goal.at.loop-at-preserved c).After-unit_here c.in_ok-unit.was) r,
+      checking_next c.args.stream.now c.loop-at.spans c.loop-at.state c.loop-at.at c.loop-at.units _ _ _ _ c.loop-at.invariant.0 (what (goal.at.loop-at-preserved c).After-unit_at (c.in-Some-Ok.is ∙ ap Some c.in-Some-Ok.field-0-is)) r,
       ap length r ∙ length-set c.loop-at.spans c.loop-at.units _ ∙ c.loop-at.invariant.1,
     )
 
