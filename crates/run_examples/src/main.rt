@@ -4,6 +4,7 @@
 
 use filing::{Refusal, Totals};
 use std::{fmt, io};
+use text::Number;
 
 // ── H ──
 
@@ -11,12 +12,14 @@ const H: [u8; 15] = *b"\x48\x40\x0F\x00\x21\xC2\x4C\xC4\xE2\x08\x00\x20\x02\x00\
 
 fn example_header(rt: &impl Print) -> io::Result<()> {
     match bodies::sequence_header(&H) {
-        Ok(h) => {
-            let (width, height, bitrate) = (h.horizontal, h.vertical, h.bitrate);
-            let columns = macroblocks::macroblock_columns(h);
-            let rows = macroblocks::macroblock_rows(h);
-            println!(rt; "H {width} {height} {bitrate} {columns} {rows}")
-        }
+        Ok(h) => println!(rt;
+            "H {} {} {} {} {}",
+            Number(u64::from(h.horizontal)),
+            Number(u64::from(h.vertical)),
+            Number(u64::from(h.bitrate)),
+            Number(u64::from(macroblocks::macroblock_columns(h))),
+            Number(u64::from(macroblocks::macroblock_rows(h)))
+        ),
         Err(_) => println!(rt;),
     }
 }
@@ -30,11 +33,13 @@ struct Told(Result<Totals, Refusal>);
 impl fmt::Display for Told {
     fn fmt<W: fmt::Write>(&self, f: &mut fmt::Formatter<W>) -> fmt::Result {
         match self.0 {
-            Ok(totals) => write!(f, "0 {}", totals.units),
+            Ok(totals) => write!(f, "0 {}", Number(totals.units as u64)),
             Err(why) => {
-                write!(f, "{} {} ", grammar::reason_number(why.reason), why.offset)?;
+                let number = Number(u64::from(grammar::reason_number(why.reason)));
+                let offset = Number(why.offset as u64);
+                write!(f, "{number} {offset} ")?;
                 match statuses::reason_bit(why.reason) {
-                    Some(bit) => write!(f, "{bit}"),
+                    Some(bit) => write!(f, "{}", Number(bit as u64)),
                     None => write!(f, "-"),
                 }
             }
@@ -44,9 +49,10 @@ impl fmt::Display for Told {
 
 // The answer, and every word lent.
 fn file(rt: &impl Print, example: u32, stream: &[u8], rows: &mut [u32]) -> io::Result<()> {
-    print!(rt; "example {example} {}", Told(filing::file(stream, rows)))?;
+    let number = Number(u64::from(example));
+    print!(rt; "example {number} {}", Told(filing::file(stream, rows)))?;
     for word in rows {
-        print!(rt; " {word}")?;
+        print!(rt; " {}", Number(u64::from(*word)))?;
     }
     println!(rt;)
 }

@@ -8,7 +8,7 @@ use contexts::Context;
 use payload::{GolombError, RemovalError};
 use rates::Rate;
 use std::{fmt, io};
-use text::Hex;
+use text::{Hex, Number, Signed};
 
 // ── what is refused ──
 
@@ -67,7 +67,7 @@ impl fmt::Display for Refused {
             Refused::Value => write!(f, "8"),
             Refused::Full => write!(f, "12"),
             Refused::TooLong => write!(f, "13"),
-            Refused::PayloadOut(missing) => write!(f, "14 {missing}"),
+            Refused::PayloadOut(missing) => write!(f, "14 {}", Number(u64::from(*missing))),
             Refused::BadState => write!(f, "15"),
         }
     }
@@ -91,9 +91,10 @@ impl<T: fmt::Display> fmt::Display for Told<T> {
 fn example_escape(rt: &impl Print) -> io::Result<()> {
     let mut out = [0xEEu8; 4];
     let removed = payload::remove_escapes(b"\x00\x00\x02\xC0", &mut out);
+    let count = removed.map(|n| Number(n as u64));
     println!(rt;
         "example 8 {} {}",
-        Told(removed.map_err(Refused::from)),
+        Told(count.map_err(Refused::from)),
         Hex(&out)
     )
 }
@@ -104,8 +105,8 @@ fn example_golomb(rt: &impl Print, byte: u8, count: usize) -> io::Result<()> {
         bytes: &bytes,
         count,
     };
-    let unsigned = payload::unsigned_golomb(&payload, 0).map(|n| n.number);
-    let signed = payload::signed_golomb(&payload, 0).map(|n| n.number);
+    let unsigned = payload::unsigned_golomb(&payload, 0).map(|n| Number(u64::from(n.number)));
+    let signed = payload::signed_golomb(&payload, 0).map(|n| Signed(n.number));
     print!(rt; "example 9 {}", Told(unsigned.map_err(Refused::from)))?;
     println!(rt; " {}", Told(signed.map_err(Refused::from)))
 }
@@ -115,7 +116,7 @@ fn example_golomb(rt: &impl Print, byte: u8, count: usize) -> io::Result<()> {
 // The bins, and the state and the context after them.
 fn example_bins(rt: &impl Print, example: u32, bytes: &[u8], count: u32) -> io::Result<()> {
     let bits = Payload { bytes, count: 24 };
-    print!(rt; "example {example}")?;
+    print!(rt; "example {}", Number(u64::from(example)))?;
     let mut state = match aec::start(bits) {
         Ok(state) => state,
         Err(why) => return println!(rt; " {}", Refused::from(why)),
@@ -126,32 +127,46 @@ fn example_bins(rt: &impl Print, example: u32, bytes: &[u8], count: u32) -> io::
             Ok(done) => done,
             Err(why) => return println!(rt; " {}", Refused::from(why)),
         };
-        print!(rt; " {}", done.bin)?;
+        print!(rt; " {}", Number(u64::from(done.bin)))?;
         state = done.state;
         context = done.contexts;
     }
     print!(rt;
         " {} {} {} {} {}",
-        state.rs, state.rt, state.vs, state.vt, state.place
+        Number(u64::from(state.rs)),
+        Number(u64::from(state.rt)),
+        Number(u64::from(state.vs)),
+        Number(u64::from(state.vt)),
+        Number(state.place as u64)
     )?;
-    println!(rt; " {} {} {}", context.mps, context.lg, context.cycno)
+    println!(rt;
+        " {} {} {}",
+        Number(u64::from(context.mps)),
+        Number(u64::from(context.lg)),
+        Number(u64::from(context.cycno))
+    )
 }
 
 // ── document 02, E9: what belongs to a rate, and its tables lent ──
 
 fn rate(rt: &impl Print, cycno: u32) -> io::Result<()> {
     let rate = Rate::by(cycno);
-    print!(rt; "cycno {cycno} {} {}", rate.width(), rate.gain())?;
+    print!(rt;
+        "cycno {} {} {}",
+        Number(u64::from(cycno)),
+        Number(u64::from(rate.width())),
+        Number(u64::from(rate.gain()))
+    )?;
     for lg in [1023, 1024, 0xFFFFFFFF] {
-        print!(rt; " {}", entries::next_lg(rate, lg))?;
+        print!(rt; " {}", Number(u64::from(entries::next_lg(rate, lg))))?;
     }
     println!(rt;)
 }
 
 fn table(rt: &impl Print, w: u32, table: &[u32; 1024]) -> io::Result<()> {
-    print!(rt; "table {w}")?;
+    print!(rt; "table {}", Number(u64::from(w)))?;
     for lg in table {
-        print!(rt; " {lg}")?;
+        print!(rt; " {}", Number(u64::from(*lg)))?;
     }
     println!(rt;)
 }

@@ -5,7 +5,7 @@
 use bits::{Payload, ReadError};
 use bodies::SequenceHeader;
 use std::{fmt, io};
-use text::Hex;
+use text::{Hex, Number};
 
 // ── bits ──
 
@@ -16,7 +16,7 @@ struct Shown(Option<u32>);
 impl fmt::Display for Shown {
     fn fmt<W: fmt::Write>(&self, f: &mut fmt::Formatter<W>) -> fmt::Result {
         match self.0 {
-            Some(value) => write!(f, "{value}"),
+            Some(value) => write!(f, "{}", Number(u64::from(value))),
             None => write!(f, "none"),
         }
     }
@@ -29,8 +29,8 @@ struct Told(Result<u32, ReadError>);
 impl fmt::Display for Told {
     fn fmt<W: fmt::Write>(&self, f: &mut fmt::Formatter<W>) -> fmt::Result {
         match self.0 {
-            Ok(number) => write!(f, "{number}"),
-            Err(ReadError::Missing(count)) => write!(f, "missing {count}"),
+            Ok(number) => write!(f, "{}", Number(u64::from(number))),
+            Err(ReadError::Missing(count)) => write!(f, "missing {}", Number(u64::from(count))),
             Err(ReadError::TooWide) => write!(f, "wide"),
         }
     }
@@ -71,8 +71,13 @@ fn read(rt: &impl Print, bytes: &[u8], count: usize, place: usize, width: u32) -
     let payload = Payload { bytes, count };
     let bit = Shown(payload.bit(place));
     let number = Told(payload.read(place, width));
-    let bytes = Hex(bytes);
-    println!(rt; "read {bytes} {count} {place} {width} {bit} {number}")
+    println!(rt;
+        "read {} {} {} {} {bit} {number}",
+        Hex(bytes),
+        Number(count as u64),
+        Number(place as u64),
+        Number(u64::from(width))
+    )
 }
 
 fn reads(rt: &impl Print) -> io::Result<()> {
@@ -92,8 +97,8 @@ const PREFIX_PLACES: [usize; 10] = [0, 1, 3, 4, 6, 9, 12, 15, 17, 18446744073709
 
 fn prefixes(rt: &impl Print) -> io::Result<()> {
     for at in PREFIX_PLACES {
-        let there = u8::from(startcode::prefix_at(&PREFIXES, at));
-        println!(rt; "prefix {at} {there}")?;
+        let there = Number(u64::from(startcode::prefix_at(&PREFIXES, at)));
+        println!(rt; "prefix {} {there}", Number(at as u64))?;
     }
     Ok(())
 }
@@ -141,11 +146,14 @@ fn pictures(rt: &impl Print) -> io::Result<()> {
             delay: 0,
             buffer: 0,
         };
-        let columns = macroblocks::macroblock_columns(h);
-        let rows = macroblocks::macroblock_rows(h);
-        let tested = u8::from(macroblocks::slices_tested(h));
         println!(rt;
-            "macroblocks {progressive} {horizontal} {vertical} {columns} {rows} {tested}"
+            "macroblocks {} {} {} {} {} {}",
+            Number(u64::from(progressive)),
+            Number(u64::from(horizontal)),
+            Number(u64::from(vertical)),
+            Number(u64::from(macroblocks::macroblock_columns(h))),
+            Number(u64::from(macroblocks::macroblock_rows(h))),
+            Number(u64::from(macroblocks::slices_tested(h)))
         )?;
     }
     Ok(())
@@ -181,10 +189,13 @@ const ROWS: [(usize, usize); 14] = [
 ];
 
 fn row(rt: &impl Print, stream: &[u8], i: usize) -> io::Result<()> {
-    let length = stream.len();
-    let exists = u8::from(rows::row_exists(stream, &WORDS, i));
-    let body = Hex(rows::row_body(stream, &WORDS, i));
-    println!(rt; "row {length} {i} {exists} {body}")
+    println!(rt;
+        "row {} {} {} {}",
+        Number(stream.len() as u64),
+        Number(i as u64),
+        Number(u64::from(rows::row_exists(stream, &WORDS, i))),
+        Hex(rows::row_body(stream, &WORDS, i))
+    )
 }
 
 fn all_rows(rt: &impl Print) -> io::Result<()> {

@@ -7,7 +7,7 @@ use bodies::{ExtensionBody, Scope, SequenceHeader};
 use grammar::{Reason, SliceRule, State};
 use layout::Fault;
 use std::{fmt, io};
-use text::Hex;
+use text::{Hex, Number};
 use units::NextUnit;
 
 // ── what is wrong ──
@@ -39,9 +39,10 @@ impl From<Reason> for Refused {
 
 impl fmt::Display for Refused {
     fn fmt<W: fmt::Write>(&self, f: &mut fmt::Formatter<W>) -> fmt::Result {
+        let number = Number(u64::from(self.number));
         match self.bit {
-            Some(bit) => write!(f, "{} {bit}", self.number),
-            None => write!(f, "{} -", self.number),
+            Some(bit) => write!(f, "{number} {}", Number(bit as u64)),
+            None => write!(f, "{number} -"),
         }
     }
 }
@@ -92,8 +93,14 @@ impl fmt::Display for Stood {
             State::Ended => return write!(f, "4"),
             State::Closed => return write!(f, "5"),
         };
-        let tested = u8::from(rule.tested);
-        write!(f, "{number} {tested} {} {last}", rule.rows)
+        write!(
+            f,
+            "{} {} {} {}",
+            Number(number),
+            Number(u64::from(rule.tested)),
+            Number(u64::from(rule.rows)),
+            Number(u64::from(last))
+        )
     }
 }
 
@@ -104,7 +111,10 @@ struct Read(Option<Result<NextUnit, Reason>>);
 impl fmt::Display for Read {
     fn fmt<W: fmt::Write>(&self, f: &mut fmt::Formatter<W>) -> fmt::Result {
         match self.0 {
-            Some(Ok(unit)) => write!(f, "{} {} {}", unit.end, unit.length, Stood(unit.state)),
+            Some(Ok(unit)) => {
+                let (end, length) = (Number(unit.end as u64), Number(unit.length as u64));
+                write!(f, "{end} {length} {}", Stood(unit.state))
+            }
             Some(Err(why)) => write!(f, "none {}", Refused::from(why)),
             None => write!(f, "none"),
         }
@@ -145,7 +155,9 @@ const PLACES: [usize; 20] = [
 fn units_in(rt: &impl Print, k: usize, state: State) -> io::Result<()> {
     for at in PLACES {
         println!(rt;
-            "unit {k} {at} {}",
+            "unit {} {} {}",
+            Number(k as u64),
+            Number(at as u64),
             Read(units::unit_at(&STREAM, state, at))
         )?;
     }
@@ -235,7 +247,7 @@ impl fmt::Display for Extension {
         match self.0 {
             Ok(ExtensionBody::Display(_)) => write!(f, "display"),
             Ok(ExtensionBody::Copyright(_)) => write!(f, "copyright"),
-            Ok(ExtensionBody::Opaque(number)) => write!(f, "opaque {number}"),
+            Ok(ExtensionBody::Opaque(number)) => write!(f, "opaque {}", Number(u64::from(number))),
             Err(why) => write!(f, "{}", Refused::from(why)),
         }
     }
@@ -243,17 +255,19 @@ impl fmt::Display for Extension {
 
 // Before the fields: whether the number is 2, whether that is too short, whether the extension is opaque here and there.
 fn ask_extension(rt: &impl Print, body: &[u8]) -> io::Result<()> {
-    let display = u8::from(bodies::is_display(body));
-    let short = u8::from(bodies::display_short(body));
-    let opaque = u8::from(bodies::is_opaque(body, Scope::Head));
-    let opaque_there = u8::from(bodies::is_opaque(body, Scope::Picture));
-    print!(rt; " {display} {short} {opaque} {opaque_there}")?;
+    print!(rt;
+        " {} {} {} {}",
+        Number(u64::from(bodies::is_display(body))),
+        Number(u64::from(bodies::display_short(body))),
+        Number(u64::from(bodies::is_opaque(body, Scope::Head))),
+        Number(u64::from(bodies::is_opaque(body, Scope::Picture)))
+    )?;
     print!(rt; " {}", Extension(bodies::extension(body, Scope::Head)))?;
     println!(rt; " {}", Extension(bodies::extension(body, Scope::Picture)))
 }
 
 fn ask_body(rt: &impl Print, k: u32, body: &[u8]) -> io::Result<()> {
-    print!(rt; "body {k} {}", Hex(body))?;
+    print!(rt; "body {} {}", Number(u64::from(k)), Hex(body))?;
     if k == 0 {
         println!(rt; " {}", Header(bodies::sequence_header(body)))
     } else {

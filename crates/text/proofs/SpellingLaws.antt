@@ -10,10 +10,12 @@ use borrow.Author.Tests.{lt-ltb, le-ltb, ltb-true}
 use lib.IntN.{ℤ, pos, negsuc, nat_abs}
 use lib.ListN.{length, get_or, take}
 use lib.Seq.{take-suc, take_all}
-use lib.Signed.{lt_z}
+use lib.Signed.{lt_z, mag}
 use mir.Facts.{to_z-of_z}
 use mir.Syntax.{w32}
 use mir.Val.{SFits, to_z, of_z}
+use Rattle.std.proofs.lemmas.Fmt.{decimal_by_steps}
+use Rattle.std.specs.Fmt as std
 use Rattle.text.specs.Text.{digit, digits, decimal, signed, hex_digit, pairs, hex}
 use Rattle.text.proofs.PutLaws.{by_order}
 
@@ -69,6 +71,21 @@ module _ (z : ℤ) (fits : SFits w32 z) (n : ℕ) (size : n ≡ nat_abs (to_z w3
 
   pub signed_plain : lt_z (to_z w32 (of_z w32 z)) (pos 0) ≡ false → decimal n ≡ signed z
   signed_plain t = ap decimal same ∙ plain z (below_zero z fits t)
+
+-- ── what std writes ──
+
+pub printed_decimal : (n : ℕ) → n < 2 ^ 64 → std.decimal n ≡ decimal n
+printed_decimal n h = decimal_by_steps (λ (m : ℕ) (text : List ℕ). m < 2 ^ 64 → text ≡ decimal m) one more n h h
+  where
+    one : (m : ℕ) → m < 10 → m < 2 ^ 64 → (48 + m) ∷ [] ≡ decimal m
+    one m l f = sym (digits_one 19 m l)
+
+    more : (m : ℕ) (text : List ℕ) → 10 ≤ m → (m / 10 < 2 ^ 64 → text ≡ decimal (m / 10)) → m < 2 ^ 64 → text ++ ((48 + m % 10) ∷ []) ≡ decimal m
+    more m text l tenth f = ap (λ (t : List ℕ). t ++ (digit (m % 10) ∷ [])) (tenth (omega arith)) ∙ sym (decimal_more m l f)
+
+pub printed_signed : (z : ℤ) → mag z < 2 ^ 63 → std.signed_decimal z ≡ signed z
+printed_signed (pos n) h = printed_decimal n (omega arith)
+printed_signed (negsuc n) h = ap (λ (t : List ℕ). 45 ∷ t) (printed_decimal (suc n) (omega arith))
 
 -- ── hexadecimal ──
 

@@ -1,7 +1,7 @@
 // Texts put into lent bytes from a place on: what does not fit is cut. The answer is the place after the text.
 // Not write!: a formatter fails where its text does not fit, and these say which of its bytes stand. The bytes lent and the place are
-// two parameters in each, and no struct: the public functions' contracts name them. The programs print by Hex and std; theorems and edits
-// hold these.
+// two parameters in each, and no struct: the public functions' contracts name them. The programs print the same texts by Number, Signed and
+// Hex; theorems and edits hold these functions too.
 #![tactic(auto)]
 
 ghost use Rattle.std.specs.Prelude.{Some, ◌≡◌, [], ◌∷◌, ◌/◌, ◌%◌, ◌<◌};
@@ -86,6 +86,34 @@ pub fn put_hex(out: &mut [u8], at: usize, s: &[u8]) -> usize
         here = put_pair(out, here, *byte);
     }
     here
+}
+
+// A number that is printed as put_number puts it.
+#[derive(Clone, Copy)]
+pub struct Number(pub u64);
+
+impl fmt::Display for Number {
+    ghost output = { λ x. Some (decimal x.0) };
+
+    #[tactic(auto, using(crate::proofs::SpellingLaws::printed_decimal))]
+    fn fmt<W: fmt::Write>(&self, f: &mut fmt::Formatter<W>) -> fmt::Result {
+        let Number(number) = *self;
+        write!(f, "{number}")
+    }
+}
+
+// A number that is printed as put_signed puts it.
+#[derive(Clone, Copy)]
+pub struct Signed(pub i32);
+
+impl fmt::Display for Signed {
+    ghost output = { λ x. Some (signed x.0) };
+
+    #[tactic(auto, using(crate::proofs::SpellingLaws::printed_signed))]
+    fn fmt<W: fmt::Write>(&self, f: &mut fmt::Formatter<W>) -> fmt::Result {
+        let Signed(signed) = *self;
+        write!(f, "{signed}")
+    }
 }
 
 // Bytes that are printed as put_hex puts them.
