@@ -1,7 +1,7 @@
 // Filing of one video sequence: its units are checked, counted, and then written as rows.
 #![tactic(auto)]
 
-ghost use Rattle.std.specs.Prelude.{◌≡◌, ◌∷◌, ◌++◌, ◌+◌, ◌*◌, ◌≤◌, ◌<◌, length, get_or, set, take, drop};
+ghost use Rattle.std.specs.Prelude.{◌≡◌, Err, ◌∷◌, ◌++◌, ◌+◌, ◌*◌, ◌≤◌, ◌<◌, length, get_or, set, take, drop};
 ghost use Rattle.std.proofs.Math.ListN;
 ghost use Rattle.answers.specs.Answers.{done};
 ghost use Rattle.startcode.specs.Kinds.{kind_of};
@@ -15,6 +15,7 @@ ghost use Rattle.filing.specs.Inside.{short_span, Spans, KeptBy, Passed, scope_a
 use bodies::Scope;
 use grammar::{Reason, State};
 use startcode::Kind;
+use units::NextUnit;
 
 // A refusal and its offset in the stream.
 #[derive(Clone, Copy, Debug, PartialEq, Eq)]
@@ -53,45 +54,50 @@ fn keep_span(spans: &mut [u16], i: usize, span: usize)
     }
 }
 
+// A stream is refused at an offset.
+fn refused_at(reason: Reason, offset: usize) -> Result<usize, Refusal>
+    ensures { result ≡ Err (record { reason = reason; offset = offset }) }
+{
+    Err(Refusal { reason, offset })
+}
+
 // Each unit is checked, the units are counted, and the spans of the first are kept; no word for rows is touched.
 fn check_units(stream: &[u8], spans: &mut [u16]) -> Result<usize, Refusal>
     ensures { Passed stream.now spans.new result }
 {
     if !startcode::prefix_at(stream, 0) {
-        return Err(Refusal {
-            reason: Reason::NoCode,
-            offset: 0,
-        });
+        return refused_at(Reason::NoCode, 0);
     }
     let mut state = State::Start;
     let mut at: usize = 0;
     let mut units: usize = 0;
     // Not a for: how many units there are is found by going over them.
     while at < stream.len() {
-        // Each refusal returns from here: as one Result of the unit with ?, the row's length, which this pass drops, was worked out.
+        // No ? over one Result of a unit and a refusal: there the row's length, which this pass drops, shares a word with the offset, and
+        // was worked out. The unit is taken apart at once, so that its state is copied once less.
         match units::unit_at(stream, state, at) {
-            Some(Ok(unit)) => {
-                keep_span(spans, units, unit.end - at);
-                state = unit.state;
-                at = unit.end;
+            Some(
+                Ok(
+                    NextUnit {
+                        state: next,
+                        end,
+                        ..
+                    },
+                ),
+            ) => {
+                keep_span(spans, units, end - at);
+                state = next;
+                at = end;
                 units += 1;
             }
-            Some(Err(reason)) => return Err(Refusal { reason, offset: at }),
-            None => {
-                return Err(Refusal {
-                    reason: Reason::NoCode,
-                    offset: at,
-                });
-            }
+            Some(Err(reason)) => return refused_at(reason, at),
+            None => return refused_at(Reason::NoCode, at),
         }
     }
     if is_final(state) {
         return Ok(units);
     }
-    Err(Refusal {
-        reason: Reason::Unended,
-        offset: at,
-    })
+    refused_at(Reason::Unended, at)
 }
 
 // The limit, and then the first pass.

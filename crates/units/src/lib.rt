@@ -82,18 +82,39 @@ impl KnownUnit<'_> {
         }
     }
 
-    // At the start only B0 may stand, and after B1 only B7.
+    #[tactic(auto, unfolding(grammar::specs::Reader::step))]
+    fn at_start(&self) -> Result<State, Reason>
+        ensures { result ≡ step State.Start self.now }
+    {
+        match self.kind {
+            Kind::SequenceHeader => steps::header_step(self.body),
+            _ => Err(Reason::OutOfPlace),
+        }
+    }
+
+    #[tactic(auto, unfolding(grammar::specs::Reader::step))]
+    fn after_end(&self) -> Result<State, Reason>
+        ensures { result ≡ step State.Ended self.now }
+    {
+        match self.kind {
+            Kind::EditCode => steps::ending_step(self.body, State::Closed),
+            _ => Err(Reason::OutOfPlace),
+        }
+    }
+
     #[tactic(auto, unfolding(grammar::specs::Reader::step))]
     fn in_state(&self, state: State) -> Result<State, Reason>
         ensures { result ≡ step state self.now }
     {
-        match (state, self.kind) {
-            (State::Start, Kind::SequenceHeader) => steps::header_step(self.body),
-            (State::Head(rule, display), _) => self.in_head(rule, display),
-            (State::Picture(rule), _) => self.in_picture(rule),
-            (State::Slices(rule, least), _) => self.after_slice(rule, least),
-            (State::Ended, Kind::EditCode) => steps::ending_step(self.body, State::Closed),
-            _ => Err(Reason::OutOfPlace),
+        // By the state and then by the kind: a match over both at once copies the state, which small units feel.
+        let _ = &self.kind; // it is the code's, after B7 too
+        match state {
+            State::Start => self.at_start(),
+            State::Head(rule, display) => self.in_head(rule, display),
+            State::Picture(rule) => self.in_picture(rule),
+            State::Slices(rule, least) => self.after_slice(rule, least),
+            State::Ended => self.after_end(),
+            State::Closed => Err(Reason::OutOfPlace),
         }
     }
 
@@ -170,12 +191,15 @@ fn unit_of(state: State, code: u8, body: &[u8], end: usize) -> Result<NextUnit, 
 {
     let kind = startcode::kind_of(code).ok_or(Reason::Unknown)?;
     let unit = KnownUnit { kind, code, body };
-    let next = unit.in_state(state)?;
-    Ok(NextUnit {
-        state: next,
-        end,
-        length: unit.length_in(unit.scope_in(state)),
-    })
+    // No ?: it copies the state once more.
+    match unit.in_state(state) {
+        Ok(next) => Ok(NextUnit {
+            state: next,
+            end,
+            length: unit.length_in(unit.scope_in(state)),
+        }),
+        Err(why) => Err(why),
+    }
 }
 
 // The unit at an offset, read in a state; or why it is refused; or that no unit begins there.

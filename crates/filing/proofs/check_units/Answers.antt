@@ -11,7 +11,7 @@ use Rattle.filing.proofs.check_units.Goals as goal
 use Rattle.filing.proofs.check_units.Goals.{After-unit_at}
 
 pub returns-then-not-prefix_at : goal.returns-then-not-prefix_at
-returns-then-not-prefix_at c = passed_refused c.args.stream.now _ _ (no_code c.args.stream.now (sym c.prefix_at.ensures ∙ c.if-not-prefix_at.true))
+returns-then-not-prefix_at c = rw c.refused_at.ensures (passed_refused c.args.stream.now _ _ (no_code c.args.stream.now (sym c.prefix_at.ensures ∙ c.if-not-prefix_at.true)))
 
 pub loop-at-init : goal.loop-at-init
 loop-at-init c = let a = c.args in (checking_start a.stream.now a.spans.now (sym c.prefix_at.ensures ∙ c.if-not-prefix_at.false), refl)
@@ -25,13 +25,13 @@ what u e =
 pub returns-in-Some-Err : goal.returns-in-Some-Err
 returns-in-Some-Err c =
     let l = what (goal.at.returns-in-Some-Err c).After-unit_at (c.in-Some-Err.is ∙ ap Some c.in-Some-Err.field-0-is) in
-    passed_refused c.args.stream.now _ _ (sym (c.loop-at.invariant.0.count ∙ ap (counted c.loop-at.units) l))
+    rw c.refused_at-in-Some-Err.ensures (passed_refused c.args.stream.now _ _ (sym (c.loop-at.invariant.0.count ∙ ap (counted c.loop-at.units) l)))
 
 pub returns-in-None : goal.returns-in-None
 returns-in-None c = absurd (what (goal.at.returns-in-None c).After-unit_at c.in-None.is)
 
-pub overflow_sub-unit : goal.overflow_sub-unit
-overflow_sub-unit c = omega (arith, (what (goal.at.overflow_sub-unit c).After-unit_at (c.in-Some-Ok.is ∙ ap Some c.in-Some-Ok.field-0-is)).forward)
+pub overflow_sub-end : goal.overflow_sub-end
+overflow_sub-end c = omega (arith, (what (goal.at.overflow_sub-end c).After-unit_at (c.in-Some-Ok.is ∙ ap Some c.in-Some-Ok.field-0-is)).forward)
 
 pub overflow_add-units : goal.overflow_add-units
 overflow_add-units c = omega (arith, c.loop-at.invariant.0.few, c.loop-at.invariant.0.inside)
@@ -57,5 +57,5 @@ returns-then-is_final c =
 
 pub returns : goal.returns
 returns c =
-    passed_refused c.args.stream.now _ _
-    (end_unended c.args.stream.now c.loop-at.spans c.loop-at.state c.loop-at.at c.loop-at.units c.loop-at.invariant.0 c.loop-at-test.false (sym c.is_final.ensures ∙ c.if-is_final.false))
+    rw c.refused_at-2.ensures (passed_refused c.args.stream.now _ _
+    (end_unended c.args.stream.now c.loop-at.spans c.loop-at.state c.loop-at.at c.loop-at.units c.loop-at.invariant.0 c.loop-at-test.false (sym c.is_final.ensures ∙ c.if-is_final.false)))
